@@ -1,0 +1,4 @@
+pub mod Command
+pub mod Geometry
+pub mod Place
+pub mod Words

@@ -1,0 +1,12 @@
+//! The commands of a DDR5 subchannel, the words that spell them, and the places of its lines.
+#![tactic(auto)]
+
+mod command;
+mod geometry;
+mod place;
+mod words;
+
+pub use command::{Command, Mrw, covers};
+pub use geometry::{Geometry, LineAddr, Place, map_line, unmap};
+pub use place::{Bank, BankAddr, Column, Group, Row};
+pub use words::{WordFault, Words, encode};

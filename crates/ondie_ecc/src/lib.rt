@@ -1,0 +1,6 @@
+//! On-die error correction.
+#![tactic(auto)]
+
+mod state;
+
+pub use state::ReadState;

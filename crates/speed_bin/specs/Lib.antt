@@ -1,0 +1,13 @@
+pub mod Timing
+pub mod Below
+pub mod Kinds
+pub mod Log
+pub mod Counters
+pub mod Alert
+pub mod Gap
+pub mod Registers
+pub mod Rules
+pub mod Page
+pub mod Height
+pub mod Header
+pub mod Marks
