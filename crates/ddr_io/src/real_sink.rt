@@ -1,0 +1,59 @@
+//! A sink into a writer of the system: the trusted edge.
+ghost use Rattle.std.specs.Prelude.{◌≡◌, ◌≢◌, ◌<◌, ◌≤◌, length};
+ghost use Rattle.ddr_io.specs.Faults.{Rose};
+ghost use Rattle.ddr_io.specs.Sink.{TakesAtMost, Takes, CountsWrite};
+
+use crate::{Put, Sink};
+use std::io::Write;
+
+/// A sink into a writer. Each error of the writer is one fault, and so is each write that took
+/// no byte.
+#[derive(Drop)]
+pub struct RealSink<W: Write> {
+    writer: W,
+    faults: u64,
+}
+
+impl<W: Write> RealSink<W> {
+    ghost use Rattle.ddr_io.specs.RealSink.{writer_of, write_faults};
+
+    /// Hands on to the writer, with no fault so far.
+    pub fn new(writer: W) -> Self
+        ensures writer { writer_of result ≡ writer }
+        ensures faults { write_faults result ≡ 0 }
+    {
+        RealSink { writer, faults: 0 }
+    }
+}
+
+impl<W: Write> Sink for RealSink<W> {
+    ghost use Rattle.ddr_io.specs.RealSink.{writer_of, write_faults};
+
+    // What the writer tells. Those of the system tell nothing.
+    ghost written = { λ s. W.contents (writer_of s) };
+
+    ghost faults = { λ s. write_faults s };
+
+    /// One write of the writer.
+    fn write(&mut self, piece: &[u8]) -> Put
+        requires { 0 < length piece.now }
+        ensures never { result ≢ Put.NoMemory }
+        ensures count { CountsWrite (write_faults self.old) (write_faults self.new) result }
+
+        // What holds of every sink.
+        ensures bound { TakesAtMost result piece.now }
+        ensures bytes { Takes (W.contents (writer_of self.old)) (W.contents (writer_of self.new))
+            result piece.now }
+        ensures later { write_faults self.old ≤ write_faults self.new }
+        ensures failed { result ≡ Put.Failed →
+            Rose (write_faults self.old) (write_faults self.new) }
+    {
+        match self.writer.write(piece) {
+            Ok(0) | Err(_) => {
+                self.faults = self.faults.saturating_add(1);
+                Put::Failed
+            }
+            Ok(count) => Put::Took(count),
+        }
+    }
+}
