@@ -10,25 +10,29 @@ abbrev pub at_bank : Bank → ℕ
 at_bank bank = 64 * bank.address + 256 * bank.group
 
 -- a first word alone
-abbrev pub IsOne : ℕ → Words → Type 0
-IsOne word words = (words.first ≡ word) × (words.second ≡ None)
+abbrev pub one : ℕ → Words
+one word = record { first = word; second = None }
 
 -- a first and a second word
-abbrev pub IsTwo : ℕ → ℕ → Words → Type 0
-IsTwo word next words = (words.first ≡ word) × (words.second ≡ Some next)
+abbrev pub two : ℕ → ℕ → Words
+two word next = record { first = word; second = Some next }
 
--- these words spell the command
+-- the words of a command
+abbrev pub words_of : Command → Words
+words_of (Act bank row) = two (4 * (row % 16) + at_bank bank) (row / 16)
+words_of (Rd bank column) = two (0x3d + at_bank bank) (0x400 + 4 * column)
+words_of (Wr bank column) = two (0x2d + at_bank bank) (0xc00 + 4 * column)
+words_of (Mrw write) = two (0x05 + 32 * write.address) write.value
+words_of (PrePb bank) = one (0x1b + at_bank bank)
+words_of (PreSb address) = one (0x40b + 64 * address)
+words_of PreAb = one 0x00b
+words_of RefAb = one 0x213
+words_of (RefSb address) = one (0x613 + 64 * address)
+words_of RfmAb = one 0x013
+words_of (RfmSb address) = one (0x413 + 64 * address)
+words_of Ecs = one 0x18f
+words_of Nop = one 0x01f
+
+-- these words spell the command: they are its words
 abbrev pub Spells : Command → Words → Type 0
-Spells (Act bank row) words = IsTwo (4 * (row % 16) + at_bank bank) (row / 16) words
-Spells (Rd bank column) words = IsTwo (0x3d + at_bank bank) (0x400 + 4 * column) words
-Spells (Wr bank column) words = IsTwo (0x2d + at_bank bank) (0xc00 + 4 * column) words
-Spells (Mrw write) words = IsTwo (0x05 + 32 * write.address) write.value words
-Spells (PrePb bank) words = IsOne (0x1b + at_bank bank) words
-Spells (PreSb address) words = IsOne (0x40b + 64 * address) words
-Spells PreAb words = IsOne 0x00b words
-Spells RefAb words = IsOne 0x213 words
-Spells (RefSb address) words = IsOne (0x613 + 64 * address) words
-Spells RfmAb words = IsOne 0x013 words
-Spells (RfmSb address) words = IsOne (0x413 + 64 * address) words
-Spells Ecs words = IsOne 0x18f words
-Spells Nop words = IsOne 0x01f words
+Spells command words = (words.first ≡ (words_of command).first) × (words.second ≡ (words_of command).second)

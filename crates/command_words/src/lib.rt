@@ -2,11 +2,15 @@
 #![tactic(auto)]
 
 mod command;
+mod decoding;
 mod geometry;
 mod place;
+#[cfg(test)]
+mod tests;
 mod words;
 
 pub use command::{Command, Mrw, covers};
+pub use decoding::decode;
 pub use geometry::{Geometry, LineAddr, Place, map_line, unmap};
 pub use place::{Bank, BankAddr, Column, Group, Row};
 pub use words::{WordFault, Words, encode};

@@ -1,6 +1,7 @@
 //! How a command is spelled on CA[13:0], by the command table of `docs/FORMATS.md`.
 ghost use Rattle.std.specs.Prelude.{◌≡◌, ◌<◌, ◌*◌, ◌+◌};
-ghost use Rattle.command_words.specs.Words.{Spells};
+ghost use Rattle.command_words.specs.Command.{IsBank, IsInRange};
+ghost use Rattle.command_words.specs.Words.{Spells, at_bank, words_of};
 
 use crate::{Bank, BankAddr, Column, Command};
 
@@ -28,7 +29,9 @@ pub enum WordFault {
 
 /// The words that spell the command.
 pub fn encode(command: &Command) -> Words
-    ensures { Spells command.now result }
+    ensures spelled { Spells command.now result }
+    ensures words { result ≡ words_of command.now }
+    ensures in_range { IsInRange command.now }
 {
     match *command {
         Command::Act(bank, row) => two(
@@ -37,7 +40,7 @@ pub fn encode(command: &Command) -> Words
         ),
         Command::Rd(bank, column) => two(0x3d + bank_bits(bank), 0x400 + column_bits(column)),
         Command::Wr(bank, column) => two(0x2d + bank_bits(bank), 0xc00 + column_bits(column)),
-        Command::Mrw(write) => two(0x05 + register_bits(write.address), u16::from(write.value)),
+        Command::Mrw(write) => write_words(write.address, write.value),
         Command::PrePb(bank) => one(0x1b + bank_bits(bank)),
         Command::PreSb(address) => one(0x40b + address_bits(address)),
         Command::PreAb => one(0x00b),
@@ -70,8 +73,9 @@ fn two(first: u16, second: u16) -> Words
 
 // The bank address in bits 7..6, and the group in bits 10..8.
 fn bank_bits(bank: Bank) -> u16
-    ensures bits { result ≡ 64 * bank.address + 256 * bank.group }
+    ensures bits { result ≡ at_bank bank }
     ensures below { result < 2048 }
+    ensures in_range { IsBank bank }
 {
     u16::from(bank.address.get()) << 6 | u16::from(bank.group.get()) << 8
 }
@@ -92,10 +96,10 @@ fn column_bits(column: Column) -> u16
     u16::from(column.get()) << 2
 }
 
-// The register's address in bits 12..5.
-fn register_bits(register: u8) -> u16
-    ensures bits { result ≡ 32 * register }
-    ensures below { result < 8192 }
+// A register's address in bits 12..5 of the first word, and its value in the second.
+fn write_words(address: u8, value: u8) -> Words
+    ensures words { result ≡ record { first = 0x05 + 32 * address; second = Some value } }
+    ensures in_range { (address < 256) × (value < 256) }
 {
-    u16::from(register) << 5
+    two(0x05 + (u16::from(address) << 5), u16::from(value))
 }
