@@ -1,5 +1,5 @@
--- The alert back-off (ALERT_n).
-use Rattle.std.specs.Prelude.{ℕ, Bool, true, false, ◌&&◌, nat_le, List, [], ◌∷◌, Option, Some, None, is_some}
+-- The alert back-off (ABO) of per-row activation counting: when ALERT_n is raised, and that an RFMab takes it back.
+use Rattle.std.specs.Prelude.{ℕ, Bool, true, false, ◌&&◌, nat_le, [], ◌∷◌, Option, Some, None, is_some}
 use Rattle.command_words.specs.declared.command.Command.{Command}
 use Rattle.speed_bin.specs.Below.{any_below}
 use Rattle.speed_bin.specs.Kinds.{Effect, Opens, Closes, Manages, Refreshes, Leaves, effect, is_rfm_all}

@@ -34,6 +34,7 @@ pub record Checks (h : Header) : Type 0 where
   pub latencies : h.timing.ncl ≡ h.timing.ncwl + 2
   pub bursts : (8 ≤ h.timing.nccd_s) × (h.timing.nccd_s ≤ h.timing.nccd_l) × (h.timing.nccd_s ≤ h.timing.nccd_l_wr)
 
+-- an accepted header
 pub record IsAccepted (h : Header) : Type 0 where
   pub timing : IsTiming h.timing
   pub settings : IsSettings h.settings

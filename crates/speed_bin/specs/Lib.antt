@@ -11,3 +11,7 @@ pub mod Page
 pub mod Height
 pub mod Header
 pub mod Marks
+pub mod Weights
+pub mod Counts
+pub mod Keys
+pub mod Document

@@ -36,11 +36,11 @@ open_at b (place ∷ log) = open_after (effect b place.command) (open_at b log)
 abbrev pub refs : ℕ → Log → ℕ
 refs address log = count_by (λ place. refreshes address place.command) log
 
--- the ECS commands
+-- the ECS commands (error check and scrub), each of one line
 abbrev pub scrubs : Log → ℕ
 scrubs log = count_by (λ place. is_scrub place.command) log
 
--- ---- Rolling counts (refresh management)
+-- ---- Rolling counts: the rolling accumulated ACT (RAA) counts of refresh management
 
 -- an ACT adds 1, an RFM takes RAAIMT, a REF takes half of it rounded down, and none goes below 0
 abbrev pub raa_after : Header → Effect → ℕ → ℕ
@@ -50,7 +50,7 @@ raa_after h Manages before = before - h.settings.raaimt
 raa_after h Refreshes before = before - h.settings.raaimt / 2
 raa_after h Leaves before = before
 
--- the rolling activation count of a bank
+-- the RAA count of a bank
 abbrev pub raa : Header → ℕ → Log → ℕ
 raa h b [] = 0
 raa h b (place ∷ log) = raa_after h (effect b place.command) (raa h b log)

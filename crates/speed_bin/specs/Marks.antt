@@ -1,5 +1,7 @@
 -- What the bound on activations speaks of: logs that keep five of the rules, and the marks of a bank.
-use Rattle.std.specs.Prelude.{ℕ, suc, Bool, true, ◌||◌, nat_lt, if◌then◌else◌, List, [], ◌∷◌, IsTrue, ⊤}
+use Rattle.std.specs.Prelude.{◌≡◌, ◌<◌, ℕ, suc, Bool, true, ◌||◌, nat_lt, if◌then◌else◌, [], ◌∷◌, IsTrue, ⊤}
+use Rattle.command_words.specs.Command.{bank_number}
+use Rattle.command_words.specs.declared.place.Bank.{Bank}
 use Rattle.command_words.specs.declared.command.Command.{Command}
 use Rattle.command_words.specs.declared.command.Command.TheVariants.{Act}
 use Rattle.speed_bin.specs.Below.{all_below}
@@ -13,6 +15,16 @@ use Rattle.speed_bin.specs.declared.header.Header.{Header}
 abbrev pub is_in_range : Header → Command → Bool
 is_in_range h (Act bank row) = nat_lt row h.settings.rows
 is_in_range h _ = true
+
+-- each ACT of the log opens a row of the header
+abbrev pub RowsInRange : Header → Log → Type 0
+RowsInRange h [] = ⊤
+RowsInRange h (place ∷ log) = RowsInRange h log × IsTrue (is_in_range h place.command)
+
+-- each ACT of the log opens a row of one of the 32 banks
+abbrev pub BanksInRange : Log → Type 0
+BanksInRange [] = ⊤
+BanksInRange (place ∷ log) = BanksInRange log × ((bank : Bank) (row : ℕ) → place.command ≡ Act bank row → bank_number bank < 32)
 
 -- a place that keeps rules 1, 2, 4, 5 and 12
 pub record KeepsAt (h : Header) (place : Issued) (log : Log) : Type 0 where

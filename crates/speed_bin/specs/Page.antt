@@ -1,5 +1,5 @@
--- Open page: no row is opened again without need.
-use Rattle.std.specs.Prelude.{ℕ, Bool, true, false, not, ◌&&◌, ◌==◌, if◌then◌else◌, List, [], ◌∷◌, Option, Some, None}
+-- Open page: a row stays open until another one of its bank is wanted, so none is opened again without need.
+use Rattle.std.specs.Prelude.{ℕ, Bool, true, false, not, ◌&&◌, ◌==◌, if◌then◌else◌, [], ◌∷◌, Option, Some, None}
 use Rattle.speed_bin.specs.Below.{all_below}
 use Rattle.speed_bin.specs.Kinds.{Effect, Opens, Closes, Manages, Refreshes, Leaves, effect, is_scrub}
 use Rattle.speed_bin.specs.Log.{Log}

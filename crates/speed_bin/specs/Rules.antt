@@ -8,7 +8,7 @@ use Rattle.command_words.specs.declared.command.Command.TheVariants.{Act, Rd, Wr
 use Rattle.command_words.specs.declared.command.Mrw.{Mrw as Write}
 use Rattle.speed_bin.specs.Below.{all_below, any_below}
 use Rattle.speed_bin.specs.Kinds.{is_act, is_rfm_all, is_rfm_same, is_scrub, needs_closed, refreshes}
-use Rattle.speed_bin.specs.Log.{Issued, Log, open_at, refs, scrubs, raa}
+use Rattle.speed_bin.specs.Log.{Log, open_at, refs, scrubs, raa}
 use Rattle.speed_bin.specs.Alert.{alert}
 use Rattle.speed_bin.specs.Gap.{gap, n_tail}
 use Rattle.speed_bin.specs.Registers.{register_writes}
@@ -26,7 +26,7 @@ rule_1 clock (place ∷ log) = nat_lt place.clock clock
 abbrev pub rule_2 : Timing → ℕ → Command → Log → Bool
 rule_2 t clock command log = list_all (λ place. nat_le (place.clock + gap t place.command command) clock) log
 
--- of five ACTs in a row, the last is at least nFAW after the first
+-- of five ACTs in a row, the last is at least nFAW after the first (the standard's window of four activations)
 abbrev pub rule_3 : Timing → ℕ → Command → Log → Bool
 rule_3 t clock command log = if is_act command then fourth (filter (λ place. is_act place.command) log) else true
   where
@@ -55,7 +55,7 @@ rule_5 command log = not (needs_closed command) || all_below 32 (λ b. not (cove
 
 -- ---- Refresh and scrub
 
--- the refreshes of an address less the intervals that passed are -4 to 4
+-- the refreshes of an address less the refresh intervals that passed are -4 to 4: up to four may be postponed or pulled in
 abbrev pub is_on_time : Header → ℕ → ℕ → Log → Bool
 is_on_time h clock address log = let due = clock / h.timing.nrefi in nat_le due (refs address log + 4) && nat_le (refs address log) (due + 4)
 

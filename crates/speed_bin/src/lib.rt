@@ -1,10 +1,19 @@
 //! Timing numbers, settings and headers, and the definitions of a log that every other crate cites (`specs/`).
 #![tactic(auto)]
 
+mod derived;
+#[cfg(test)]
+mod document_tests;
+mod failing;
+mod fault;
 mod header;
+mod keys;
+mod read;
 mod settings;
 mod timing;
 
+pub use fault::HeaderFault;
 pub use header::Header;
+pub use read::read_header;
 pub use settings::{RefreshMode, Settings};
 pub use timing::{Timing, named};

@@ -1,6 +1,6 @@
 //! The timing numbers of a speed bin.
-ghost use Rattle.std.specs.Prelude.{◌≡◌};
-ghost use Rattle.speed_bin.specs.Timing.{bin_named};
+ghost use Rattle.std.specs.Prelude.{◌≡◌, IfSome};
+ghost use Rattle.speed_bin.specs.Timing.{IsTiming, bin_named};
 
 /// The timing numbers, all in clocks, each 1 to 65,535.
 #[derive(Clone, Copy, Debug, PartialEq, Eq)]
@@ -57,7 +57,8 @@ pub struct Timing {
 
 /// The timing of the bin with this name: `4800-prac` or `tiny`, and `None` exactly for every other name.
 pub fn named(name: &str) -> Option<Timing>
-    ensures { result ≡ bin_named name.now }
+    ensures named { result ≡ bin_named name.now }
+    ensures in_range { IfSome result IsTiming }
 {
     match name {
         "4800-prac" => Some(PRAC_4800),

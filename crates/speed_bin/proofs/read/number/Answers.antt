@@ -1,0 +1,14 @@
+use Rattle.std.proofs.Common.{◌∙◌, ap, refl}
+use Rattle.toml.proofs.Views.{table_get}
+use Rattle.speed_bin.specs.Document.{whole_or}
+use Rattle.speed_bin.proofs.read.number.Goals as goal
+
+pub returns-in-Some : goal.returns-in-Some
+returns-in-Some c =
+    let found = table_get c.get.result c.args.key.now c.args.table.now.entries c.get.ensures.value in
+    rw (← (rw c.in-Some.is at found)) (c.whole_or.ensures ∙ ap (whole_or c.args.other) c.as_integer.ensures)
+
+pub returns-in-None : goal.returns-in-None
+returns-in-None c =
+    let found = table_get c.get.result c.args.key.now c.args.table.now.entries c.get.ensures.value in
+    rw (← (rw c.in-None.is at found)) refl
