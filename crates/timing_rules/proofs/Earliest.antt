@@ -1,0 +1,115 @@
+-- The greatest clock of all rows and of the window is the least clock under rules 1 to 3, and lies below a bound.
+use Rattle.std.proofs.Common.{◌≡◌, ◌↔◌, ℕ, ◌+◌, ◌≤◌, ◌<◌, ◌^◌, Bool, true, false, ◌&&◌, nat_le, max, if◌then◌else◌, List, [], ◌∷◌, slice_get, IsTrue, refl, arith}
+use Rattle.std.specs.List.{list_all}
+use Rattle.std.proofs.lemmas.Bool.{le-leb}
+use Rattle.command_words.specs.declared.command.Command.{Command}
+use Rattle.speed_bin.specs.Gap.{Entry, greatest, gap, gap_table}
+use Rattle.speed_bin.specs.Kinds.{is_act}
+use Rattle.speed_bin.specs.Log.{Log, Issued}
+use Rattle.speed_bin.specs.Rules.{MayFollow, rule_2, rule_3}
+use Rattle.speed_bin.specs.Timing.{IsTiming}
+use Rattle.speed_bin.specs.declared.timing.Timing.{Timing}
+use Rattle.timing_rules.specs.Rows.{AllClear, RowsClear, bus_rows, act_rows, rd_rows, wr_rows, precharge_rows, busy_rows}
+use Rattle.timing_rules.specs.Spaced.{AllSmall}
+use Rattle.timing_rules.proofs.Clear.{rule_2_apart, rule_2_together}
+use Rattle.timing_rules.proofs.Spacing.{rises, acts_of, window_allows, window_passes}
+use Rattle.timing_rules.proofs.Window.{small_fourth, late_after}
+
+greater : (m a b clock : ℕ) → m ≡ max a b → a ≤ clock → b ≤ clock → m ≤ clock
+greater m a b clock e h k = omega arith
+
+left : (m a b clock : ℕ) → m ≡ max a b → m ≤ clock → a ≤ clock
+left m a b clock e h = omega arith
+
+right : (m a b clock : ℕ) → m ≡ max a b → m ≤ clock → b ≤ clock
+right m a b clock e h = omega arith
+
+pub least_clock : (t : Timing) (command : Command) (log : Log) (clock bus acts reads writes precharges busy window a b c d e result : ℕ)
+    → (AllClear bus_rows clock log ↔ (bus ≤ clock))
+    → (AllClear (act_rows t command) clock log ↔ (acts ≤ clock))
+    → (AllClear (rd_rows t command) clock log ↔ (reads ≤ clock))
+    → (AllClear (wr_rows t command) clock log ↔ (writes ≤ clock))
+    → (AllClear (precharge_rows t command) clock log ↔ (precharges ≤ clock))
+    → (AllClear (busy_rows t command) clock log ↔ (busy ≤ clock))
+    → (IsTrue (rule_3 t clock command log) ↔ (window ≤ clock))
+    → a ≡ max bus acts → b ≡ max a reads → c ≡ max b writes → d ≡ max c precharges → e ≡ max d busy → result ≡ max e window
+    → (MayFollow t clock command log ↔ (result ≤ clock))
+least_clock t command log clock bus acts reads writes precharges busy window a b c d e result is_bus is_acts is_reads is_writes is_precharges is_busy is_window ea eb ec ed ee er = (
+  λ follows.
+      let rows : RowsClear t command clock log = rule_2_apart t clock command log follows.gaps in
+      greater result e window clock er
+      (greater e d busy clock ee
+      (greater d c precharges clock ed
+      (greater c b writes clock ec
+      (greater b a reads clock eb (greater a bus acts clock ea (is_bus.0 rows.bus) (is_acts.0 rows.acts)) (is_reads.0 rows.reads))
+      (is_writes.0 rows.writes))
+      (is_precharges.0 rows.precharges))
+      (is_busy.0 rows.busy))
+      (is_window.0 follows.window),
+  λ h.
+      let he = left result e window clock er h in
+      let hd = left e d busy clock ee he in
+      let hc = left d c precharges clock ed hd in
+      let hb = left c b writes clock ec hc in
+      let ha = left b a reads clock eb hb in
+      let kept : IsTrue (rule_2 t clock command log) = rule_2_together t clock command log (record {
+        bus = is_bus.1 (left a bus acts clock ea ha);
+        acts = is_acts.1 (right a bus acts clock ea ha);
+        reads = is_reads.1 (right b a reads clock eb hb);
+        writes = is_writes.1 (right c b writes clock ec hc);
+        precharges = is_precharges.1 (right d c precharges clock ed hd);
+        busy = is_busy.1 (right e d busy clock ee he);
+      }) in
+      record {
+        rises = rises t clock command log kept;
+        gaps = kept;
+        window = is_window.1 (right result e window clock er h);
+      },
+)
+
+-- ---- A clock at which every command may follow
+
+abbrev AllBelow : List Entry → Type 0
+AllBelow [] = Unit {0}
+AllBelow (entry ∷ entries) = (entry.clocks ≤ 196615) × AllBelow entries
+
+greatest_step : (b : Bool) (n m bound : ℕ) → n ≤ bound → m ≤ bound → (if b then max n m else m) ≤ bound
+greatest_step true n m bound h k = omega arith
+greatest_step false n m bound h k = k
+
+greatest_below : (entries : List Entry) → AllBelow entries → greatest entries ≤ 196615
+greatest_below [] h = omega arith
+greatest_below (entry ∷ entries) h = greatest_step entry.applies entry.clocks (greatest entries) 196615 h.0 (greatest_below entries h.1)
+
+gap_below : (t : Timing) (first second : Command) → IsTiming t → gap t first second ≤ 196615
+gap_below t first second h = greatest_below (gap_table t first second) (omega arith, (omega arith, (omega arith, (omega arith, (omega arith, (omega arith, (omega arith, (omega arith, (omega arith, (omega arith, (omega arith, (omega arith, (omega arith, (omega arith, (omega arith, (omega arith, (omega arith, (omega arith, (omega arith, (omega arith, (omega arith, (omega arith, (omega arith, tt)))))))))))))))))))))))
+
+late_enough : (c n : ℕ) → c < 2 ^ 48 → n ≤ 196615 → nat_le (c + n) (2 ^ 48 + 2 ^ 18) ≡ true
+late_enough c n h k = le-leb (c + n) (2 ^ 48 + 2 ^ 18) (omega arith)
+
+joined : (x y : Bool) → x ≡ true → y ≡ true → (x && y) ≡ true
+joined true y h k = k
+joined false y h k = cc
+
+gaps_late : (g : Command → ℕ) (log : Log) → ((first : Command) → g first ≤ 196615) → AllSmall log → IsTrue (list_all (λ (p : Issued). nat_le (p.clock + g p.command) (2 ^ 48 + 2 ^ 18)) log)
+gaps_late g [] h k = refl
+gaps_late g (place ∷ log) h k = joined (nat_le (place.clock + g place.command) (2 ^ 48 + 2 ^ 18)) (list_all (λ (p : Issued). nat_le (p.clock + g p.command) (2 ^ 48 + 2 ^ 18)) log) (late_enough place.clock (g place.command) k.1 (h place.command)) (gaps_late g log h k.0)
+
+window_late : (t : Timing) (command : Command) (log : Log) → IsTiming t → AllSmall log → IsTrue (rule_3 t (2 ^ 48 + 2 ^ 18) command log)
+window_late t command log h k = go (is_act command) refl
+  where
+    go : (b : Bool) → is_act command ≡ b → IsTrue (rule_3 t (2 ^ 48 + 2 ^ 18) command log)
+    go true e = window_allows t (2 ^ 48 + 2 ^ 18) command log e (late_after t.nfaw (2 ^ 48 + 2 ^ 18) (slice_get (acts_of log) 3) (small_fourth log k) (omega (arith, h.nfaw)))
+    go false e = window_passes t (2 ^ 48 + 2 ^ 18) command log e
+
+pub follows_late : (t : Timing) (command : Command) (log : Log) → IsTiming t → AllSmall log → MayFollow t (2 ^ 48 + 2 ^ 18) command log
+follows_late t command log h k =
+    let kept : IsTrue (rule_2 t (2 ^ 48 + 2 ^ 18) command log) = gaps_late (λ first. gap t first command) log (λ first. gap_below t first command h) k in
+    record {
+      rises = rises t (2 ^ 48 + 2 ^ 18) command log kept;
+      gaps = kept;
+      window = window_late t command log h k;
+    }
+
+pub within_range : (result : ℕ) → result ≤ 2 ^ 48 + 2 ^ 18 → result < 2 ^ 49
+within_range result h = omega arith

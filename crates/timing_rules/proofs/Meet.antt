@@ -1,0 +1,148 @@
+-- Two sets of banks have one in common exactly where the test of each bank finds one.
+use Rattle.std.proofs.Common.{◌≡◌, ◌∙◌, ℕ, zero, suc, ◌<◌, ◌%◌, ◌⊎◌, Bool, true, false, ◌&&◌, ◌||◌, refl, sym, ap, arith, inl, inr, subst}
+use Rattle.std.proofs.lemmas.Bool.{eqb-true, eq-eqb}
+use Rattle.command_words.specs.Command.{is_at, covers}
+use Rattle.command_words.specs.declared.command.Command.{Command}
+use Rattle.command_words.specs.declared.command.Command.TheVariants.{PreAb}
+use Rattle.speed_bin.specs.Below.{any_below}
+use Rattle.speed_bin.specs.Gap.{meet}
+use Rattle.timing_rules.specs.declared.scope.Scope.{Scope}
+use Rattle.timing_rules.specs.declared.scope.Scope.TheVariants.{Bank, Address, All, Nothing}
+use Rattle.timing_rules.specs.Kept.{touches, closes_all}
+use Rattle.timing_rules.specs.Scope.{is_within, overlap_of, IsScope}
+
+same_or_below : (i n : ℕ) → i < suc n → (i ≡ n) ⊎ (i < n)
+same_or_below i n h = grind arith
+
+or_right : (x y : Bool) → y ≡ true → (x || y) ≡ true
+or_right true y h = refl
+or_right false y h = h
+
+or_left : (x y : Bool) → x ≡ true → (x || y) ≡ true
+or_left true y h = refl
+or_left false y h = cc
+
+both : (x y : Bool) → (x && y) ≡ true → (x ≡ true) × (y ≡ true)
+both true y h = (refl, h)
+both false y h = (cc, cc)
+
+joined : (x y : Bool) → x ≡ true → y ≡ true → (x && y) ≡ true
+joined true y h k = k
+joined false y h k = cc
+
+-- two tests that hold together are one
+same_tests : (x y : Bool) → (x ≡ true → y ≡ true) → (y ≡ true → x ≡ true) → x ≡ y
+same_tests true true h k = refl
+same_tests true false h k = sym (h refl)
+same_tests false true h k = k refl
+same_tests false false h k = refl
+
+-- a test that holds somewhere is found
+found : (n : ℕ) (test : ℕ → Bool) (i : ℕ) → i < n → test i ≡ true → any_below n test ≡ true
+unfolding any_below
+found zero test i low h = absurd (omega arith)
+found (suc n) test i low h = go (same_or_below i n low) (found n test i)
+  where
+    go : (i ≡ n) ⊎ (i < n) → (i < n → test i ≡ true → any_below n test ≡ true) → (test n || any_below n test) ≡ true
+    go (inl e) ih = or_left (test n) (any_below n test) (ap test (sym e) ∙ h)
+    go (inr below) ih = or_right (test n) (any_below n test) (ih below h)
+
+-- what is found is somewhere
+finds : (n : ℕ) (test : ℕ → Bool) → any_below n test ≡ true → (i : ℕ) × (i < n) × (test i ≡ true)
+unfolding any_below
+finds zero test h = absurd cc
+finds (suc n) test h = go (test n) refl h (finds n test)
+  where
+    go : (x : Bool) → test n ≡ x → (x || any_below n test) ≡ true → (any_below n test ≡ true → (i : ℕ) × (i < n) × (test i ≡ true)) → (i : ℕ) × (i < suc n) × (test i ≡ true)
+    go true e k ih = (n, omega arith, e)
+    go false e k ih = let w : (i : ℕ) × (i < n) × (test i ≡ true) = ih k in (w.0, omega (arith, w.1), w.2)
+
+within_both : Scope → Scope → ℕ → Bool
+within_both first second b = is_within first b && is_within second b
+
+-- a bank in both shows that they overlap
+overlap_from : (first second : Scope) (b : ℕ) → IsScope first → IsScope second → is_within first b ≡ true → is_within second b ≡ true → overlap_of first second ≡ true
+overlap_from (Bank own) (Bank other) b h k e f = eq-eqb own other (eqb-true own b e ∙ sym (eqb-true other b f))
+overlap_from (Bank own) (Address other) b h k e f = subst (λ n. is_at other n ≡ true) (sym (eqb-true own b e)) f
+overlap_from (Bank own) All b h k e f = refl
+overlap_from (Bank own) Nothing b h k e f = f
+overlap_from (Address own) (Bank other) b h k e f = subst (λ n. is_at own n ≡ true) (sym (eqb-true other b f)) e
+overlap_from (Address own) (Address other) b h k e f = eq-eqb own other (sym (eqb-true (b % 4) own e) ∙ eqb-true (b % 4) other f)
+overlap_from (Address own) All b h k e f = refl
+overlap_from (Address own) Nothing b h k e f = f
+overlap_from All (Bank other) b h k e f = refl
+overlap_from All (Address other) b h k e f = refl
+overlap_from All All b h k e f = refl
+overlap_from All Nothing b h k e f = f
+overlap_from Nothing second b h k e f = e
+
+at_itself : (a : ℕ) → a < 4 → is_at a a ≡ true
+at_itself a h = eq-eqb (a % 4) a (omega arith)
+
+abbrev Common : Scope → Scope → Type 0
+Common first second = (b : ℕ) × (b < 32) × (is_within first b ≡ true) × (is_within second b ≡ true)
+
+-- where they overlap there is a bank in both
+overlap_at : (first second : Scope) → IsScope first → IsScope second → overlap_of first second ≡ true → Common first second
+overlap_at (Bank own) (Bank other) h k e = (own, h, eq-eqb own own refl, eq-eqb other own (sym (eqb-true own other e)))
+overlap_at (Bank own) (Address other) h k e = (own, h, eq-eqb own own refl, e)
+overlap_at (Bank own) All h k e = (own, h, eq-eqb own own refl, refl)
+overlap_at (Bank own) Nothing h k e = absurd cc
+overlap_at (Address own) (Bank other) h k e = (other, k, e, eq-eqb other other refl)
+overlap_at (Address own) (Address other) h k e = (own, omega arith, at_itself own h, subst (λ n. is_at n own ≡ true) (eqb-true own other e) (at_itself own h))
+overlap_at (Address own) All h k e = (own, omega arith, at_itself own h, refl)
+overlap_at (Address own) Nothing h k e = absurd cc
+overlap_at All (Bank other) h k e = (other, k, refl, eq-eqb other other refl)
+overlap_at All (Address other) h k e = (other, omega arith, refl, at_itself other k)
+overlap_at All All h k e = (0, omega arith, refl, refl)
+overlap_at All Nothing h k e = absurd cc
+overlap_at Nothing second h k e = absurd cc
+
+-- two commands meet exactly where their scopes overlap
+pub meet_by_scopes : (first second : Command) (s r : Scope) → IsScope s → IsScope r → ((b : ℕ) → is_within s b ≡ covers first b) → ((b : ℕ) → is_within r b ≡ covers second b) → overlap_of s r ≡ meet first second
+meet_by_scopes first second s r hs hr es er = same_tests (overlap_of s r) (meet first second)
+    (λ e. let w : Common s r = overlap_at s r hs hr e in
+    found 32 (λ b. covers first b && covers second b) w.0 w.1 (joined (covers first w.0) (covers second w.0) (sym (es w.0) ∙ w.2) (sym (er w.0) ∙ w.3)))
+    (λ e. let w = finds 32 (λ b. covers first b && covers second b) e in
+    let p = both (covers first w.0) (covers second w.0) w.2 in
+    overlap_from s r w.0 hs hr (es w.0 ∙ p.0) (er w.0 ∙ p.1))
+
+-- the same of one command and a scope
+pub touches_by_scope : (command : Command) (own scope : Scope) → IsScope own → IsScope scope → ((b : ℕ) → covers command b ≡ is_within own b) → touches scope command ≡ overlap_of own scope
+touches_by_scope command own scope h k e = same_tests (touches scope command) (overlap_of own scope)
+    (λ t. let w = finds 32 (λ b. covers command b && is_within scope b) t in
+    let p = both (covers command w.0) (is_within scope w.0) w.2 in
+    overlap_from own scope w.0 h k (sym (e w.0) ∙ p.0) p.1)
+    (λ o. let w : Common own scope = overlap_at own scope h k o in
+    found 32 (λ b. covers command b && is_within scope b) w.0 w.1 (joined (covers command w.0) (is_within scope w.0) (e w.0 ∙ w.2) w.3))
+
+any_below_same : (n : ℕ) (p q : ℕ → Bool) → ((b : ℕ) → p b ≡ q b) → any_below n p ≡ any_below n q
+unfolding any_below
+any_below_same zero p q h = refl
+any_below_same (suc n) p q h = ap (λ x. x || any_below n p) (h n) ∙ ap (λ x. q n || x) (any_below_same n p q h)
+
+-- to meet a command is to touch its scope
+pub meet_touches : (first second : Command) (scope : Scope) → ((b : ℕ) → is_within scope b ≡ covers second b) → meet first second ≡ touches scope first
+meet_touches first second scope e = any_below_same 32 (λ b. covers first b && covers second b) (λ b. covers first b && is_within scope b) (λ b. ap (λ x. covers first b && x) (sym (e b)))
+
+and_false : (b : Bool) → (b && false) ≡ false
+and_false true = refl
+and_false false = refl
+
+-- nothing touches no bank
+none_below : (n : ℕ) (p : ℕ → Bool) → any_below n (λ b. p b && false) ≡ false
+unfolding any_below
+none_below zero p = refl
+none_below (suc n) p = ap (λ x. x || any_below n (λ b. p b && false)) (and_false (p n)) ∙ none_below n p
+
+pub touches_nothing : (command : Command) → touches Nothing command ≡ false
+touches_nothing command = none_below 32 (λ b. covers command b)
+
+-- what covers every bank touches each scope but the empty one
+pub touches_each : (command : Command) (scope : Scope) → IsScope scope → ((b : ℕ) → covers command b ≡ true) → touches scope command ≡ overlap_of All scope
+touches_each command scope k e = touches_by_scope command All scope tt k e
+
+-- PREab covers every bank
+pub all_cover : (command : Command) → closes_all command ≡ true → (b : ℕ) → covers command b ≡ true
+all_cover PreAb h b = refl
+all_cover _ h b = absurd cc

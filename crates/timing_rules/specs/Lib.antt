@@ -1,0 +1,5 @@
+pub mod Gate
+pub mod Kept
+pub mod Rows
+pub mod Scope
+pub mod Spaced
