@@ -1,0 +1,4 @@
+pub mod AllBelow
+pub mod Counting
+pub mod Fitting
+pub mod Steps

@@ -1,0 +1,5 @@
+pub mod AllBelow
+pub mod Counts
+pub mod Allowing
+pub mod Owing
+pub mod Steps

@@ -1,0 +1,3 @@
+pub mod AnyBelow
+pub mod Steps
+pub mod Wanting

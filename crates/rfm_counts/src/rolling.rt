@@ -1,0 +1,139 @@
+//! The rolling activation count of each bank.
+ghost use Rattle.std.specs.Prelude.{◌≡◌, ℕ, ◌+◌, ◌<◌, ◌∷◌, [], IsTrue, IsNone, IfSome, ◌↔◌, Bool, false, slice_index, slice_set};
+ghost use Rattle.command_words.specs.Command.{bank_number};
+ghost use Rattle.speed_bin.specs.declared.header.Header.{Header as AnyHeader};
+ghost use Rattle.speed_bin.specs.Log.{Log, Issued, raa};
+ghost use Rattle.speed_bin.specs.Rules.{rule_9, is_wanted};
+ghost use Rattle.rfm_counts.specs.Held.{Held, HasSameLimits, lowered, is_high_at};
+ghost use Rattle.rfm_counts.specs.Standing.{StandsFor, MayIssue};
+
+use command_words::{Bank, BankAddr, Command};
+use speed_bin::Settings;
+use std::marker::Model;
+
+/// The rolling activation counts (RAA) of the banks of a log.
+#[derive(Drop)]
+pub struct Raa {
+    raaimt: u32,
+    raammt: u32,
+    // by the number of the bank
+    counts: [u32; 32],
+}
+
+impl Model for Raa {
+    ghost use Rattle.rfm_counts.specs.Held.{Held};
+
+    ghost Value = { Held };
+
+    ghost view = { λ s. record { raaimt = s.raaimt; raammt = s.raammt; counts = s.counts } };
+}
+
+impl Raa {
+    /// All counts are 0.
+    pub fn new(settings: &Settings) -> Self
+        ensures { (h : AnyHeader) → h.settings ≡ settings.now → StandsFor result h [] }
+    {
+        Raa {
+            raaimt: settings.raaimt,
+            raammt: settings.raammt,
+            counts: [0; 32],
+        }
+    }
+
+    /// The rolling count of the bank.
+    #[tactic(auto, unfolding(crate::specs::Standing::StandsFor))]
+    pub fn count(&self, bank: Bank) -> u32
+        ensures { (h : AnyHeader) (log : Log) → StandsFor self.now h log → result ≡ raa h (bank_number bank) log }
+    {
+        self.counts[bank.number() as usize]
+    }
+
+    /// Whether an ACT of the bank is allowed: its count is below RAAMMT.
+    #[tactic(auto, unfolding(crate::specs::Standing::StandsFor))]
+    pub fn may_activate(&self, bank: Bank) -> bool
+        ensures below { (h : AnyHeader) (log : Log) → StandsFor self.now h log
+            → (IsTrue result ↔ (raa h (bank_number bank) log < h.settings.raammt)) }
+        ensures rule { (h : AnyHeader) (log : Log) (row : ℕ) → StandsFor self.now h log
+            → result ≡ rule_9 h (Command.Act bank row) log }
+    {
+        self.count(bank) < self.raammt
+    }
+
+    /// The least address with a bank at RAAIMT or more, for which an RFMsb is wanted.
+    pub fn wanted(&self) -> Option<BankAddr>
+        ensures none { (h : AnyHeader) (log : Log) → StandsFor self.now h log
+            → (IsNone result ↔ (is_wanted h Command.RfmAb log ≡ false)) }
+        ensures wanted { (h : AnyHeader) (log : Log) → StandsFor self.now h log
+            → IfSome result (λ address. IsTrue (is_wanted h (Command.RfmSb address) log)) }
+        ensures least { (h : AnyHeader) (log : Log) → StandsFor self.now h log
+            → IfSome result (λ address. (other : ℕ) → other < address → is_wanted h (Command.RfmSb other) log ≡ false) }
+    {
+        for address in 0..4 {
+            if self.is_high_at(address) {
+                return BankAddr::new(address);
+            }
+        }
+        None
+    }
+
+    // Whether some bank with this address is at RAAIMT or more.
+    fn is_high_at(&self, address: u8) -> bool
+        requires { address < 4 }
+        ensures { result ≡ is_high_at self.now address }
+    {
+        for group in 0..8 {
+            if self.counts[group * 4 + address as usize] >= self.raaimt {
+                return true;
+            }
+        }
+        false
+    }
+
+    // Adds one to the count of the bank.
+    fn add(&mut self, bank: Bank)
+        requires { slice_index self.old.counts (bank_number bank) < self.old.raammt }
+        ensures { self.new ≡ record self.old { counts = slice_set self.old.counts (bank_number bank) (slice_index self.old.counts (bank_number bank) + 1) } }
+    {
+        self.counts[bank.number() as usize] += 1;
+    }
+
+    // Takes from the count of each bank, or of each with this address, and stops at 0.
+    fn lower(&mut self, address: Option<BankAddr>, by: u32)
+        ensures limits { HasSameLimits self.old self.new }
+        ensures counts { (b : ℕ) → b < 32 → slice_index self.new.counts b ≡ lowered address by b (slice_index self.old.counts b) }
+    {
+        for number in 0..32 {
+            let covered = match address {
+                Some(own) => number % 4 == own.get() as usize,
+                None => true,
+            };
+            if covered {
+                self.counts[number] = self.counts[number].saturating_sub(by);
+            }
+        }
+    }
+
+    /// Appends the command to the log: an ACT adds one, an RFM takes RAAIMT, a REF half of it.
+    #[tactic(auto, unfolding(crate::specs::Standing::StandsFor))]
+    pub fn issue(&mut self, command: &Command)
+        requires { MayIssue self.old command.now }
+        ensures { (h : AnyHeader) (clock : ℕ) (log : Log) → StandsFor self.old h log → IsTrue (rule_9 h command.now log)
+            → StandsFor self.new h (record { clock = clock; command = command.now } ∷ log) }
+    {
+        match command {
+            Command::Act(bank, _) => self.add(*bank),
+            Command::RfmAb => self.lower(None, self.raaimt),
+            Command::RfmSb(address) => self.lower(Some(*address), self.raaimt),
+            Command::RefAb => self.lower(None, self.raaimt / 2),
+            Command::RefSb(address) => self.lower(Some(*address), self.raaimt / 2),
+            Command::Rd(..)
+            | Command::Wr(..)
+            | Command::PrePb(_)
+            | Command::PreSb(_)
+            | Command::PreAb
+            | Command::Mrw(_)
+            | Command::Ecs
+            | Command::Nop => {}
+        }
+    }
+}
