@@ -1,0 +1,4 @@
+mod CounterOrder
+pub mod Steps
+mod HeightLemmas
+mod BoundOfManyRows
