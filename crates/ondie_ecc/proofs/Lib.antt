@@ -1,0 +1,12 @@
+pub mod Below
+pub mod Bytes
+pub mod Checks
+pub mod Data
+pub mod Joins
+pub mod Laid
+pub mod LawLemmas
+pub mod Lists
+pub mod Packed
+pub mod Runs
+pub mod Shifts
+pub mod Turns

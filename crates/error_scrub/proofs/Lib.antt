@@ -1,0 +1,3 @@
+pub mod ChangeLemmas
+pub mod WordKinds
+pub mod ZeroWords

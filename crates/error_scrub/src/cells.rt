@@ -1,0 +1,124 @@
+//! The stored lines, each as four codewords.
+ghost use Rattle.std.specs.Prelude.{◌≡◌, ◌≢◌, ◌<◌, ◌≤◌, ◌+◌, ◌*◌, ℕ, [], ◌∷◌, ◌++◌, OnOk, OnErr, take, drop, slice_index_or, slice_range};
+ghost use Rattle.command_words.specs.Place.{line_of, IsInside};
+
+use crate::words::{Faults, joined, mend, protected, read_word, worse};
+use command_words::{Geometry, Place, unmap};
+use ddr_io::OutOfMemory;
+use ondie_ecc::{Codeword, ReadState, flip};
+use std::alloc::{AllocError, Global};
+use std::collections::BTreeMap;
+
+/// What a reading of a line found: its 64 bytes after correction, and the worst state of its four codewords.
+#[derive(Clone, Copy, Debug, PartialEq, Eq)]
+pub struct LineRead {
+    pub bytes: [u8; 64],
+    pub state: ReadState,
+}
+
+/// The stored lines of a subchannel. Device d (0 to 3) holds bytes `16 * d` to `16 * d + 15` of a line as one codeword.
+/// A line that was neither written nor flipped is zero, and takes no memory.
+#[derive(Drop)]
+pub struct Cells {
+    geometry: Geometry,
+    kept: BTreeMap<u32, [Codeword; 4]>,
+}
+
+#[tactic(auto, unfolding(crate::specs::Cells::stored, crate::specs::Cells::shape_of))]
+impl Cells {
+    ghost use Rattle.error_scrub.specs.Cells.{zero_word, stored, shape_of, line_read, written, flipped, scrubbed, ChangesLine, IsUnchanged};
+    ghost use Rattle.error_scrub.specs.Scrubbing.{words_at, fixed_in, lost_in};
+
+    /// Every line zero.
+    pub fn new(alloc: Global, g: Geometry) -> Self
+        ensures shape { shape_of result ≡ g }
+        ensures zero { (line device : ℕ) → stored result line device ≡ zero_word }
+    {
+        Cells {
+            geometry: g,
+            kept: BTreeMap::new(alloc),
+        }
+    }
+
+    /// The line becomes these bytes, whatever was stored before.
+    pub fn write(&mut self, place: Place, bytes: &[u8; 64]) -> Result<(), OutOfMemory>
+        requires { IsInside place (shape_of self.old) }
+        ensures ok { OnOk result (ChangesLine self.old self.new (line_of place (shape_of self.old)) (written bytes.now)) }
+        ensures err { OnErr result (IsUnchanged self.old self.new) }
+        ensures shape { shape_of self.new ≡ shape_of self.old }
+    {
+        let line = unmap(place, self.geometry).get();
+        self.keep(line, protected(bytes))
+    }
+
+    /// The bytes of the line after correction. Nothing is written back.
+    pub fn read(&self, place: Place) -> LineRead
+        requires { IsInside place (shape_of self.now) }
+        ensures { result ≡ line_read self.now (line_of place (shape_of self.now)) }
+    {
+        let line = unmap(place, self.geometry).get();
+        let words = self.words(line);
+        let first = read_word(words[0]);
+        let second = read_word(words[1]);
+        let third = read_word(words[2]);
+        let fourth = read_word(words[3]);
+        LineRead {
+            bytes: joined(&first.bytes, &second.bytes, &third.bytes, &fourth.bytes),
+            state: worse(
+                worse(first.state, second.state),
+                worse(third.state, fourth.state),
+            ),
+        }
+    }
+
+    /// One bit of one device's codeword is turned.
+    pub fn flip(&mut self, place: Place, device: u8, bit: u8) -> Result<(), OutOfMemory>
+        requires place { IsInside place (shape_of self.old) }
+        requires device { device < 4 }
+        requires bit { bit < 136 }
+        ensures ok { OnOk result
+            (let line = line_of place (shape_of self.old) in ChangesLine self.old self.new line (flipped self.old line device bit)) }
+        ensures err { OnErr result (IsUnchanged self.old self.new) }
+        ensures shape { shape_of self.new ≡ shape_of self.old }
+    {
+        let line = unmap(place, self.geometry).get();
+        let mut words = self.words(line);
+        words[usize::from(device)] = flip(words[usize::from(device)], bit);
+        self.keep(line, words)
+    }
+
+    /// Repairs the four codewords of a line: the fixed ones are written back, the lost ones stay.
+    pub(crate) fn scrub_line(&mut self, line: u32) -> Faults
+        ensures line { ChangesLine self.old self.new line (scrubbed self.old line) }
+        ensures fixed { result.fixed ≡ fixed_in (words_at self.old line) }
+        ensures lost { result.lost ≡ lost_in (words_at self.old line) }
+        ensures few { result.fixed + result.lost ≤ 4 }
+    {
+        match self.kept.get_mut(&line) {
+            Some(words) => mend(words),
+            None => Faults { fixed: 0, lost: 0 },
+        }
+    }
+
+    // The codewords of a line.
+    fn words(&self, line: u32) -> [Codeword; 4]
+        ensures { (device : ℕ) → device < 4 → (slice_index_or result device (record { 0 = [] })).0 ≡ stored self.now line device }
+    {
+        match self.kept.get(&line) {
+            Some(words) => *words,
+            None => [Codeword([0; 17]); 4],
+        }
+    }
+
+    // The line has these codewords from now on.
+    fn keep(&mut self, line: u32, words: [Codeword; 4]) -> Result<(), OutOfMemory>
+        ensures ok { OnOk result (ChangesLine self.old self.new line (λ device. (slice_index_or words device (record { 0 = [] })).0)) }
+        ensures err { OnErr result (IsUnchanged self.old self.new) }
+        ensures shape { shape_of self.new ≡ shape_of self.old }
+    {
+        match self.kept.insert(line, words) {
+            Ok(_) => Ok(()),
+            Err(refused) => Err(AllocError::from(refused).into()),
+        }
+    }
+}
