@@ -1,6 +1,21 @@
 //! The lines of traces and reports, and what a report says of a trace.
 #![tactic(auto)]
 
+mod digits;
+mod fields;
+pub mod laws;
 mod lines;
+mod report_line;
+#[cfg(test)]
+mod report_line_tests;
+mod spelling;
+#[cfg(test)]
+mod spelling_tests;
+mod trace_line;
+#[cfg(test)]
+mod trace_line_tests;
 
 pub use lines::{LineFault, ReportLine, StatName, TraceLine};
+pub use report_line::{read_report_line, report_lines};
+pub use spelling::write_report_line;
+pub use trace_line::{read_trace_line, trace_grammar};

@@ -1,0 +1,13 @@
+use Rattle.std.proofs.Common.{◌∙◌, ap}
+use Rattle.std.specs.Prelude.{option_map}
+use Rattle.ddr_text.proofs.Columns.{none-column, some-column}
+use Rattle.ddr_text.specs.Accesses.{access_of}
+use Rattle.ddr_text.specs.Sound.{shape_of}
+use Rattle.ddr_text.specs.Runs.{log_of}
+use Rattle.ddr_text.proofs.laws.serves_by_columns.Goals as goal
+
+pub returns-clause-none : goal.returns-clause-none
+returns-clause-none c = λ h trace run s sound e. none-column (shape_of h) s.issued.command (log_of run) sound.rules.open_bank (sound.is_of ∙ ap (option_map access_of) e)
+
+pub returns-clause-some : goal.returns-clause-some
+returns-clause-some c = λ h trace run s r sound e. some-column (shape_of h) s.issued.command (log_of run) r (sound.is_of ∙ ap (option_map access_of) e)
