@@ -1,0 +1,3 @@
+pub mod AtEnd
+pub mod Fault
+pub mod Words

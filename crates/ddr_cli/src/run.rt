@@ -1,0 +1,40 @@
+//! The top call.
+ghost use Rattle.std.specs.Prelude.{ℕ, ◌≡◌, ◌≢◌, ◌↔◌, List, Option, Some, None};
+ghost use Rattle.ddr_io.specs.Faults.{Rose};
+ghost use Rattle.ddr_text.specs.declared.lines.TraceLine.{TraceLine};
+ghost use Rattle.trace_replay.specs.Replay.{Answers, IsJobOf};
+ghost use Rattle.ddr_cli.specs.Words.{IsReplay};
+
+use ddr_io::{Sink, Source, Status};
+use std::alloc::Global;
+use trace_replay::replay;
+
+/// Does all that the program does, but for the flush of what it wrote. `words` are those of the
+/// command line, without the program's name.
+pub fn run<S: Source, K: Sink>(
+    alloc: Global,
+    words: &[String],
+    source: &mut S,
+    sink: &mut K,
+) -> Status
+    ensures usage { (result ≡ Status.Usage) ↔ (¬ IsReplay words.now) }
+    ensures unread { result ≡ Status.Usage → source.new ≡ source.old }
+    ensures unwritten { result ≡ Status.Usage → sink.new ≡ sink.old }
+
+    // With the word `replay`: the job in the bytes that were read, the report in those that were written.
+    ensures replayed { IsReplay words.now → Answers result (S.left source.old) (S.left source.new) (K.written sink.old) (K.written sink.new) }
+
+    // A job with nothing to refuse is not refused.
+    ensures complete { (bytes : List ℕ) (left : Option (List ℕ)) (trace : List TraceLine) → IsReplay words.now → S.left source.old ≡ Some bytes
+        → IsJobOf (Some bytes) left trace None → result ≢ Status.Refused }
+
+    // A fault is told where it was counted.
+    ensures read { result ≡ Status.ReadFault → Rose (S.faults source.old) (S.faults source.new) }
+    ensures write { result ≡ Status.WriteFault → Rose (K.faults sink.old) (K.faults sink.new) }
+    ensures broken { result ≢ Status.Broken }
+{
+    match words {
+        [word] if word.as_str() == "replay" => replay(alloc, source, sink),
+        _ => Status::Usage,
+    }
+}

@@ -1,0 +1,13 @@
+pub mod Gaps
+pub mod Issuing
+pub mod Rows
+pub mod Turns
+pub mod Work
+pub mod Offers
+pub mod Requests
+pub mod Steps
+pub mod Openings
+pub mod ServedHeader
+pub mod Traces
+pub mod Pieces
+pub mod Reported

@@ -1,0 +1,12 @@
+pub mod Banks
+pub mod Stop
+pub mod Store
+pub mod Controller
+pub mod Choice
+pub mod Trace
+pub mod Turn
+pub mod Progress
+pub mod Job
+pub mod Reading
+pub mod Writing
+pub mod Replay
