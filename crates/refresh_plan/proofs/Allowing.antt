@@ -1,12 +1,13 @@
 -- The tests of a plan against rules 6, 7 and 8.
-use Rattle.std.proofs.Common.{◌≡◌, ◌∙◌, ℕ, ◌+◌, ◌/◌, ◌<◌, ◌≤◌, Bool, true, false, nat_le, IsTrue, ◌↔◌, List, ◌∷◌, slice_index, sym, ap, arith, leb-true, le-leb}
+use Rattle.std.proofs.Common.{◌≡◌, ◌∙◌, ℕ, ◌+◌, ◌/◌, ◌<◌, ◌≤◌, Bool, true, false, nat_le, IsTrue, ◌↔◌, List, [], ◌∷◌, slice_index, Option, is_some, refl, sym, ap, subst, arith, leb-true, le-leb}
+use Rattle.std.specs.Option.{IsNone}
 use Rattle.command_words.specs.declared.command.Command.{Command}
 use Rattle.speed_bin.specs.Below.{all_below}
 use Rattle.speed_bin.specs.declared.header.Header.{Header}
 use Rattle.speed_bin.specs.Log.{Log, refs, scrubs}
-use Rattle.speed_bin.specs.Rules.{is_on_time, rule_6, rule_7, rule_8}
+use Rattle.speed_bin.specs.Rules.{is_on_time, rule_6, rule_7, rule_8, first_failing}
 use Rattle.refresh_plan.specs.Held.{Held, after, scrubs_in_time}
-use Rattle.refresh_plan.specs.Standing.{Keeps, IsAllowed}
+use Rattle.refresh_plan.specs.Standing.{Keeps, IsAllowed, refresh_rules}
 use Rattle.refresh_plan.proofs.AllBelow.{both, joined, same_tests, all_below_at, all_below_from}
 use Rattle.refresh_plan.proofs.Counts.{after_refs}
 
@@ -70,3 +71,22 @@ allowed_where_in_step h log clock command on_time even in_step six seven eight t
 
 pub not_allowed : (P : Type 0) (value : Bool) → value ≡ false → (P → ⊥) → IsTrue value ↔ P
 not_allowed P value e never = (λ k. absurd cc, λ p. absurd (never p))
+
+-- ---- The least rule that fails
+
+pub least_is : (h : Header) (log : Log) (clock : ℕ) (command : Command) (on_time even in_step : Bool) → on_time ≡ rule_6 h clock command log → even ≡ rule_7 command log → in_step ≡ rule_8 h command log → first_failing 6 (on_time ∷ even ∷ in_step ∷ []) ≡ first_failing 6 (refresh_rules h clock command log)
+least_is h log clock command on_time even in_step six seven eight = rw (six, seven, eight) refl
+
+none_broken : (a b c : Bool) → is_some (first_failing 6 (a ∷ b ∷ c ∷ [])) ≡ false → (a ≡ true) × (b ≡ true) × (c ≡ true)
+none_broken true true true h = (refl, refl, refl)
+none_broken true true false h = absurd cc
+none_broken true false c h = absurd cc
+none_broken false b c h = absurd cc
+
+pub allowed_where_none : (h : Header) (log : Log) (clock : ℕ) (command : Command) (result : Option ℕ) → result ≡ first_failing 6 (refresh_rules h clock command log) → (IsNone result ↔ IsAllowed h clock command log)
+allowed_where_none h log clock command result is = (
+  λ none.
+      let p = none_broken (rule_6 h clock command log) (rule_7 command log) (rule_8 h command log) (subst (λ (o : Option ℕ). is_some o ≡ false) is none) in
+      record { sixth = p.0; seventh = p.1; eighth = p.2 },
+  λ allowed. subst (λ (o : Option ℕ). is_some o ≡ false) (sym is) (rw (allowed.sixth, allowed.seventh, allowed.eighth) refl),
+)

@@ -1,5 +1,5 @@
 -- What a plan says of a log.
-use Rattle.std.specs.Prelude.{◌≡◌, ℕ, ◌<◌, [], ◌∷◌, length, slice_index, IsTrue, ⊤}
+use Rattle.std.specs.Prelude.{◌≡◌, ℕ, ◌<◌, Bool, List, [], ◌∷◌, length, slice_index, IsTrue, ⊤}
 use Rattle.command_words.specs.declared.command.Command.{Command}
 use Rattle.speed_bin.specs.declared.header.Header.{Header}
 use Rattle.speed_bin.specs.Log.{Log, refs, scrubs}
@@ -11,6 +11,10 @@ pub record IsAllowed (h : Header) (clock : ℕ) (command : Command) (log : Log) 
   pub sixth : IsTrue (rule_6 h clock command log)
   pub seventh : IsTrue (rule_7 command log)
   pub eighth : IsTrue (rule_8 h command log)
+
+-- whether each of them holds
+abbrev pub refresh_rules : Header → ℕ → Command → Log → List Bool
+refresh_rules h clock command log = rule_6 h clock command log ∷ rule_7 command log ∷ rule_8 h command log ∷ []
 
 -- they hold at each place of the log
 abbrev pub AllAllowed : Header → Log → Type 0

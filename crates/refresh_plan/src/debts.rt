@@ -4,10 +4,10 @@ ghost use Rattle.speed_bin.specs.declared.header.Header.{Header as AnyHeader};
 ghost use Rattle.speed_bin.specs.Below.{all_below};
 ghost use Rattle.speed_bin.specs.Kinds.{refreshes, is_scrub};
 ghost use Rattle.speed_bin.specs.Log.{Log, Issued, refs, scrubs};
-ghost use Rattle.speed_bin.specs.Rules.{is_on_time};
+ghost use Rattle.speed_bin.specs.Rules.{is_on_time, first_failing};
 ghost use Rattle.speed_bin.specs.Timing.{IsClocks};
 ghost use Rattle.refresh_plan.specs.Held.{after, scrubs_in_time};
-ghost use Rattle.refresh_plan.specs.Standing.{StandsFor, MayIssue, IsAllowed};
+ghost use Rattle.refresh_plan.specs.Standing.{StandsFor, MayIssue, IsAllowed, refresh_rules};
 
 use crate::Due;
 use command_words::{BankAddr, Command};
@@ -70,6 +70,22 @@ impl Plan {
     {
         let counts = self.refreshes_after(command);
         self.is_on_time(&counts, clock) && is_even(&counts) && self.is_in_step(command)
+    }
+
+    /// The least of the rules 6 to 8 that fails where the command is issued at the clock: 6 where a debt is not within 4,
+    /// 7 where the refreshes of two addresses differ by more than 1, 8 where the ECS commands are out of step with the
+    /// refreshes of address 0. `None` exactly where it is allowed.
+    pub fn broken(&self, command: &Command, clock: u64) -> Option<u8>
+        requires { clock < 2 ^ 48 }
+        ensures least { (h : AnyHeader) (log : Log) → StandsFor self.now h log → result ≡ first_failing 6 (refresh_rules h clock command.now log) }
+        ensures none { (h : AnyHeader) (log : Log) → StandsFor self.now h log → (IsNone result ↔ IsAllowed h clock command.now log) }
+    {
+        let counts = self.refreshes_after(command);
+        least_broken(
+            self.is_on_time(&counts, clock),
+            is_even(&counts),
+            self.is_in_step(command),
+        )
     }
 
     /// Whether the log may end at the clock: each debt is within 4.
@@ -195,6 +211,18 @@ impl Plan {
             }
         }
         BankAddr::new(best).unwrap()
+    }
+}
+
+// The least of the rules 6 to 8 that does not hold.
+fn least_broken(on_time: bool, even: bool, in_step: bool) -> Option<u8>
+    ensures { result ≡ first_failing 6 (on_time ∷ even ∷ in_step ∷ []) }
+{
+    match (on_time, even, in_step) {
+        (false, _, _) => Some(6),
+        (true, false, _) => Some(7),
+        (true, true, false) => Some(8),
+        (true, true, true) => None,
     }
 }
 

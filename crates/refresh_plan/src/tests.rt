@@ -71,7 +71,7 @@ fn refreshes_of_one_address(rt: HostRuntime) -> Result<(), Fail> {
         let command = ref_same(address).ok_or("address")?;
         assert_eq!(rt; plan.due(clock), same(address));
         assert!(rt; step(&mut plan, clock, &command));
-        assert!(rt; address == 3 || !plan.allowed(&command, clock));
+        assert!(rt; address == 3 || plan.broken(&command, clock) == Some(7));
     }
     assert_eq!(rt; plan.due(2999), None);
     assert_eq!(rt; plan.due(3000), same(0));
@@ -81,30 +81,29 @@ fn refreshes_of_one_address(rt: HostRuntime) -> Result<(), Fail> {
 
 #[test]
 fn commands_in_turn(rt: HostRuntime) -> Result<(), Fail> {
-    // a clock, a command, whether it is allowed there, and whether an ECS is due then
+    // a clock, a command, the least rule that it breaks there, and whether an ECS is due then
     let turns = [
-        (0_u32, Command::Ecs, false, false),
-        (10, Command::RefAb, true, false),
-        (20, Command::Ecs, false, false),
-        (30, Command::RefAb, true, true),
-        (40, Command::RefAb, false, true),
-        (50, Command::Ecs, true, false),
-        (60, Command::Ecs, false, false),
-        (70, Command::RefAb, true, false),
-        (80, Command::RefAb, true, true),
-        (90, Command::Ecs, true, false),
-        (999, Command::RefAb, false, false),
-        (1000, Command::RefAb, true, false),
-        (9999, Command::PreAb, true, false),
-        (10000, Command::PreAb, false, false),
+        (0_u32, Command::Ecs, Some(8), false),
+        (10, Command::RefAb, None, false),
+        (20, Command::Ecs, Some(8), false),
+        (30, Command::RefAb, None, true),
+        (40, Command::RefAb, Some(8), true),
+        (50, Command::Ecs, None, false),
+        (60, Command::Ecs, Some(8), false),
+        (70, Command::RefAb, None, false),
+        (80, Command::RefAb, None, true),
+        (90, Command::Ecs, None, false),
+        (999, Command::RefAb, Some(6), false),
+        (1000, Command::RefAb, None, false),
+        (9999, Command::PreAb, None, false),
+        (10000, Command::PreAb, Some(6), false),
     ];
     let mut plan = plan("tiny", RefreshMode::All, 2).ok_or("bin")?;
-    for (clock, command, allowed, ecs_due) in turns {
-        assert_eq!(rt;
-            step(&mut plan, u64::from(clock), &command),
-            allowed,
-            "{clock}"
-        );
+    for (clock, command, broken, ecs_due) in turns {
+        let clock = u64::from(clock);
+        assert_eq!(rt; plan.broken(&command, clock), broken, "{clock}");
+        let issued = step(&mut plan, clock, &command);
+        assert_eq!(rt; issued, broken.is_none(), "{clock}");
         assert_eq!(rt; plan.ecs_due(), ecs_due, "{clock}");
     }
     Ok(())

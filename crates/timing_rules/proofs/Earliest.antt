@@ -1,16 +1,17 @@
 -- The greatest clock of all rows and of the window is the least clock under rules 1 to 3, and lies below a bound.
-use Rattle.std.proofs.Common.{◌≡◌, ◌↔◌, ℕ, ◌+◌, ◌≤◌, ◌<◌, ◌^◌, Bool, true, false, ◌&&◌, nat_le, max, if◌then◌else◌, List, [], ◌∷◌, slice_get, IsTrue, refl, arith}
+use Rattle.std.proofs.Common.{◌≡◌, ◌↔◌, ℕ, ◌+◌, ◌≤◌, ◌<◌, ◌^◌, Bool, true, false, ◌&&◌, nat_le, max, if◌then◌else◌, List, [], ◌∷◌, slice_get, IsTrue, Option, is_some, refl, sym, subst, arith}
+use Rattle.std.specs.Option.{IsNone}
 use Rattle.std.specs.List.{list_all}
-use Rattle.std.proofs.lemmas.Bool.{le-leb}
+use Rattle.std.proofs.lemmas.Bool.{le-leb, leb-true}
 use Rattle.command_words.specs.declared.command.Command.{Command}
 use Rattle.speed_bin.specs.Gap.{Entry, greatest, gap, gap_table}
 use Rattle.speed_bin.specs.Kinds.{is_act}
 use Rattle.speed_bin.specs.Log.{Log, Issued}
-use Rattle.speed_bin.specs.Rules.{MayFollow, rule_2, rule_3}
+use Rattle.speed_bin.specs.Rules.{MayFollow, rule_1, rule_2, rule_3, first_failing}
 use Rattle.speed_bin.specs.Timing.{IsTiming}
 use Rattle.speed_bin.specs.declared.timing.Timing.{Timing}
 use Rattle.timing_rules.specs.Rows.{AllClear, RowsClear, bus_rows, act_rows, rd_rows, wr_rows, precharge_rows, busy_rows}
-use Rattle.timing_rules.specs.Spaced.{AllSmall}
+use Rattle.timing_rules.specs.Spaced.{AllSmall, spacing_rules}
 use Rattle.timing_rules.proofs.Clear.{rule_2_apart, rule_2_together}
 use Rattle.timing_rules.proofs.Spacing.{rises, acts_of, window_allows, window_passes}
 use Rattle.timing_rules.proofs.Window.{small_fourth, late_after}
@@ -24,47 +25,81 @@ left m a b clock e h = omega arith
 right : (m a b clock : ℕ) → m ≡ max a b → m ≤ clock → b ≤ clock
 right m a b clock e h = omega arith
 
-pub least_clock : (t : Timing) (command : Command) (log : Log) (clock bus acts reads writes precharges busy window a b c d e result : ℕ)
+pub least_gaps : (t : Timing) (command : Command) (log : Log) (clock bus acts reads writes precharges busy a b c d result : ℕ)
     → (AllClear bus_rows clock log ↔ (bus ≤ clock))
     → (AllClear (act_rows t command) clock log ↔ (acts ≤ clock))
     → (AllClear (rd_rows t command) clock log ↔ (reads ≤ clock))
     → (AllClear (wr_rows t command) clock log ↔ (writes ≤ clock))
     → (AllClear (precharge_rows t command) clock log ↔ (precharges ≤ clock))
     → (AllClear (busy_rows t command) clock log ↔ (busy ≤ clock))
-    → (IsTrue (rule_3 t clock command log) ↔ (window ≤ clock))
-    → a ≡ max bus acts → b ≡ max a reads → c ≡ max b writes → d ≡ max c precharges → e ≡ max d busy → result ≡ max e window
-    → (MayFollow t clock command log ↔ (result ≤ clock))
-least_clock t command log clock bus acts reads writes precharges busy window a b c d e result is_bus is_acts is_reads is_writes is_precharges is_busy is_window ea eb ec ed ee er = (
-  λ follows.
-      let rows : RowsClear t command clock log = rule_2_apart t clock command log follows.gaps in
-      greater result e window clock er
-      (greater e d busy clock ee
+    → a ≡ max bus acts → b ≡ max a reads → c ≡ max b writes → d ≡ max c precharges → result ≡ max d busy
+    → (IsTrue (rule_2 t clock command log) ↔ (result ≤ clock))
+least_gaps t command log clock bus acts reads writes precharges busy a b c d result is_bus is_acts is_reads is_writes is_precharges is_busy ea eb ec ed ee = (
+  λ gaps.
+      let rows : RowsClear t command clock log = rule_2_apart t clock command log gaps in
+      greater result d busy clock ee
       (greater d c precharges clock ed
       (greater c b writes clock ec
       (greater b a reads clock eb (greater a bus acts clock ea (is_bus.0 rows.bus) (is_acts.0 rows.acts)) (is_reads.0 rows.reads))
       (is_writes.0 rows.writes))
       (is_precharges.0 rows.precharges))
-      (is_busy.0 rows.busy))
-      (is_window.0 follows.window),
+      (is_busy.0 rows.busy),
   λ h.
-      let he = left result e window clock er h in
-      let hd = left e d busy clock ee he in
+      let hd = left result d busy clock ee h in
       let hc = left d c precharges clock ed hd in
       let hb = left c b writes clock ec hc in
       let ha = left b a reads clock eb hb in
-      let kept : IsTrue (rule_2 t clock command log) = rule_2_together t clock command log (record {
+      rule_2_together t clock command log (record {
         bus = is_bus.1 (left a bus acts clock ea ha);
         acts = is_acts.1 (right a bus acts clock ea ha);
         reads = is_reads.1 (right b a reads clock eb hb);
         writes = is_writes.1 (right c b writes clock ec hc);
         precharges = is_precharges.1 (right d c precharges clock ed hd);
-        busy = is_busy.1 (right e d busy clock ee he);
-      }) in
+        busy = is_busy.1 (right result d busy clock ee h);
+      }),
+)
+
+pub least_clock : (t : Timing) (command : Command) (log : Log) (clock gaps window result : ℕ)
+    → (IsTrue (rule_2 t clock command log) ↔ (gaps ≤ clock))
+    → (IsTrue (rule_3 t clock command log) ↔ (window ≤ clock))
+    → result ≡ max gaps window
+    → (MayFollow t clock command log ↔ (result ≤ clock))
+least_clock t command log clock gaps window result is_gaps is_window e = (
+  λ follows. greater result gaps window clock e (is_gaps.0 follows.gaps) (is_window.0 follows.window),
+  λ h.
+      let kept = is_gaps.1 (left result gaps window clock e h) in
       record {
         rises = rises t clock command log kept;
         gaps = kept;
-        window = is_window.1 (right result e window clock er h);
+        window = is_window.1 (right result gaps window clock e h);
       },
+)
+
+-- ---- The least rule that fails
+
+test_is : (b : Bool) (n clock : ℕ) → (IsTrue b ↔ (n ≤ clock)) → nat_le n clock ≡ b
+test_is true n clock h = le-leb n clock (h.0 refl)
+test_is false n clock h = go (nat_le n clock) refl
+  where
+    go : (x : Bool) → nat_le n clock ≡ x → x ≡ false
+    go true e = sym (h.1 (leb-true n clock e))
+    go false e = refl
+
+pub spacing_is : (t : Timing) (clock : ℕ) (command : Command) (log : Log) (after : Bool) (gaps window : ℕ) → after ≡ rule_1 clock log → (IsTrue (rule_2 t clock command log) ↔ (gaps ≤ clock)) → (IsTrue (rule_3 t clock command log) ↔ (window ≤ clock)) → first_failing 1 (after ∷ nat_le gaps clock ∷ nat_le window clock ∷ []) ≡ first_failing 1 (spacing_rules t clock command log)
+spacing_is t clock command log after gaps window first second third = rw (first, test_is (rule_2 t clock command log) gaps clock second, test_is (rule_3 t clock command log) window clock third) refl
+
+none_broken : (a b c : Bool) → is_some (first_failing 1 (a ∷ b ∷ c ∷ [])) ≡ false → (a ≡ true) × (b ≡ true) × (c ≡ true)
+none_broken true true true h = (refl, refl, refl)
+none_broken true true false h = absurd cc
+none_broken true false c h = absurd cc
+none_broken false b c h = absurd cc
+
+pub follows_where_none : (t : Timing) (clock : ℕ) (command : Command) (log : Log) (result : Option ℕ) → result ≡ first_failing 1 (spacing_rules t clock command log) → (IsNone result ↔ MayFollow t clock command log)
+follows_where_none t clock command log result is = (
+  λ none.
+      let p = none_broken (rule_1 clock log) (rule_2 t clock command log) (rule_3 t clock command log) (subst (λ (o : Option ℕ). is_some o ≡ false) is none) in
+      record { rises = p.0; gaps = p.1; window = p.2 },
+  λ follows. subst (λ (o : Option ℕ). is_some o ≡ false) (sym is) (rw (follows.rises, follows.gaps, follows.window) refl),
 )
 
 -- ---- A clock at which every command may follow

@@ -1,14 +1,15 @@
 //! The gate: how soon the next command may come, by the gaps and by the window of five ACTs.
-ghost use Rattle.std.specs.Prelude.{ℕ, ◌≡◌, ◌+◌, ◌<◌, ◌≤◌, ◌↔◌, ◌^◌, ◌&&◌, [], ◌∷◌, IsTrue, Option, IfOk};
+ghost use Rattle.std.specs.Prelude.{ℕ, ◌≡◌, ◌+◌, ◌<◌, ◌≤◌, ◌↔◌, ◌^◌, ◌&&◌, [], ◌∷◌, IsTrue, Option, IfOk, IsNone};
 ghost use Rattle.circular_buffer.specs.Buffer.{buffer};
 ghost use Rattle.command_words.specs.Command.{covers};
 ghost use Rattle.speed_bin.specs.Kinds.{group_of};
 ghost use Rattle.speed_bin.specs.Log.{Log};
-ghost use Rattle.speed_bin.specs.Rules.{MayFollow, rule_3};
+ghost use Rattle.speed_bin.specs.Rules.{MayFollow, rule_1, rule_2, rule_3, first_failing};
 ghost use Rattle.speed_bin.specs.Timing.{IsTiming};
 ghost use Rattle.speed_bin.specs.declared.timing.Timing.{Timing};
 ghost use Rattle.timing_rules.specs.Rows.{AllClear, act_rows, bus_rows, busy_rows, precharge_rows, rd_rows, wr_rows};
 ghost use Rattle.timing_rules.specs.Scope.{IsScope, is_within};
+ghost use Rattle.timing_rules.specs.Spaced.{spacing_rules};
 
 use crate::Clock;
 use crate::kept::{Addressed, Banked, within_all};
@@ -94,14 +95,23 @@ impl Gate {
         ensures least { (t : Timing) (log : Log) → StandsFor self.now t log → (clock : ℕ) → (MayFollow t clock command.now log ↔ (result ≤ clock)) }
         ensures in_range { result < 2 ^ 49 }
     {
-        let scope = scope_of(command);
-        self.behind_bus()
-            .max(self.behind_acts(command, scope))
-            .max(self.behind_reads(command, scope))
-            .max(self.behind_writes(command, scope))
-            .max(self.behind_precharges(command, scope))
-            .max(self.behind_busy(command, scope))
-            .max(self.behind_window(command))
+        self.behind_gaps(command).max(self.behind_window(command))
+    }
+
+    /// The least of the rules 1 to 3 that fails where the command follows those issued so far at this clock: 1 where the
+    /// clock is not above the last one, 2 where a gap is too short, 3 where the window of five ACTs is. `None` exactly
+    /// where it may follow.
+    #[tactic(auto, unfolding(crate::specs::Gate::StandsFor))]
+    pub fn broken(&self, clock: Clock, command: &Command) -> Option<u8>
+        requires { (t : Timing) × (log : Log) × StandsFor self.now t log }
+        ensures least { (t : Timing) (log : Log) → StandsFor self.now t log → result ≡ first_failing 1 (spacing_rules t clock command.now log) }
+        ensures none { (t : Timing) (log : Log) → StandsFor self.now t log → (IsNone result ↔ MayFollow t clock command.now log) }
+    {
+        least_broken(
+            self.is_after_last(clock),
+            self.behind_gaps(command) <= clock,
+            self.behind_window(command) <= clock,
+        )
     }
 
     /// Adds the command, issued at this clock.
@@ -140,6 +150,30 @@ impl Gate {
             Command::Ecs => self.scrubs = Some(clock),
             Command::Nop => {}
         }
+    }
+
+    // Whether the clock is above the last one.
+    fn is_after_last(&self, clock: Clock) -> bool
+        ensures { (t : Timing) (log : Log) → Keeps self.now t log → result ≡ rule_1 clock log }
+    {
+        match self.any {
+            Some(last) => last < clock,
+            None => true,
+        }
+    }
+
+    // All gaps.
+    fn behind_gaps(&self, command: &Command) -> Clock
+        requires { IsTiming self.now.timing }
+        ensures { (t : Timing) (log : Log) → Keeps self.now t log → (clock : ℕ) → (IsTrue (rule_2 self.now.timing clock command.now log) ↔ (result ≤ clock)) }
+    {
+        let scope = scope_of(command);
+        self.behind_bus()
+            .max(self.behind_acts(command, scope))
+            .max(self.behind_reads(command, scope))
+            .max(self.behind_writes(command, scope))
+            .max(self.behind_precharges(command, scope))
+            .max(self.behind_busy(command, scope))
     }
 
     // ---- The rows of the gap table, by the kind of the first command, in the order of the table.
@@ -242,6 +276,18 @@ impl Gate {
     {
         let first = self.window.get(3).copied();
         row(is_act(command), first, self.timing.nfaw)
+    }
+}
+
+// The least of the rules 1 to 3 that does not hold.
+fn least_broken(rises: bool, gaps: bool, window: bool) -> Option<u8>
+    ensures { result ≡ first_failing 1 (rises ∷ gaps ∷ window ∷ []) }
+{
+    match (rises, gaps, window) {
+        (false, _, _) => Some(1),
+        (true, false, _) => Some(2),
+        (true, true, false) => Some(3),
+        (true, true, true) => None,
     }
 }
 

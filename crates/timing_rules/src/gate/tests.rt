@@ -29,6 +29,26 @@ fn earliest_after(
     Some(gate.earliest(command))
 }
 
+// The least rule that the command breaks behind the others at this clock; `None` where one of those comes too soon, or
+// memory is short.
+fn broken_after(
+    alloc: Global,
+    timing: &Timing,
+    issued: &[(Clock, Command)],
+    clock: Clock,
+    command: &Command,
+) -> Option<Option<u8>>
+    requires { IsTiming timing.now }
+{
+    let mut gate = Gate::new(alloc, timing).ok()?;
+    for (clock, earlier) in issued {
+        if !issue_in_time(&mut gate, *clock, earlier) {
+            return None;
+        }
+    }
+    Some(gate.broken(clock, command))
+}
+
 // Issues the command if it is not too soon for it.
 fn issue_in_time(gate: &mut Gate, clock: Clock, command: &Command) -> bool
     requires { (t : Timing) × (log : Log) × StandsFor gate.old t log }
@@ -109,6 +129,26 @@ fn waits_for_the_window_of_five_acts(rt: HostRuntime) {
     ];
     let found = earliest_after(rt.alloc(), &tiny(), &issued, &act(&rt, 4));
     assert_eq!(rt; found, Some(42));
+}
+
+#[test]
+fn names_the_least_rule_that_fails(rt: HostRuntime) {
+    let issued = [
+        (32, act(&rt, 0)),
+        (34, act(&rt, 1)),
+        (36, act(&rt, 2)),
+        (38, act(&rt, 3)),
+    ];
+    for (clock, want) in [
+        (38, Some(1)),
+        (39, Some(2)),
+        (40, Some(3)),
+        (41, Some(3)),
+        (42, None),
+    ] {
+        let found = broken_after(rt.alloc(), &tiny(), &issued, clock, &act(&rt, 4));
+        assert_eq!(rt; found, Some(want));
+    }
 }
 
 #[test]
