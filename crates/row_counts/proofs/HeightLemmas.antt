@@ -1,5 +1,5 @@
--- The powers that `height` computes fit into 128 bits, and one more than a counter into 32.
-use Rattle.std.proofs.Common.{ℕ, zero, suc, ◌+◌, Bool, true, false, cond, nat_le, ◌*◌, ◌^◌, ◌<◌, ◌≤◌, arith, pow-suc, mul-le-mul}
+-- The powers that `height` computes fit into 128 bits, and a height is small.
+use Rattle.std.proofs.Common.{ℕ, zero, suc, Bool, true, false, cond, nat_le, ◌*◌, ◌^◌, ◌<◌, ◌≤◌, arith, pow-suc, mul-le-mul}
 use Rattle.std.proofs.Math.Nat.{pow-le-pow_right}
 use Rattle.speed_bin.specs.Height.{greatest_upto, height_of}
 
@@ -30,6 +30,3 @@ upto_below test (suc n) = go (test (suc n)) (upto_below test n)
 pub height_low : (spare rows : ℕ) → height_of spare rows ≤ 64
 unfolding height_of
 height_low spare rows = upto_below (λ k. nat_le (suc spare ^ k) (rows * spare ^ k)) 64
-
-pub count_fits : (count ath rows : ℕ) → count < ath + height_of 3 rows + 3 → ath ≤ 1023 → count + 1 < 2 ^ 32
-count_fits count ath rows low few = let h = height_low 3 rows in omega arith

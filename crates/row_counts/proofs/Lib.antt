@@ -1,4 +1,5 @@
 mod CounterOrder
+mod ListLemmas
 pub mod Steps
 mod HeightLemmas
 mod BoundOfManyRows

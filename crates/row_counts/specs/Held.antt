@@ -1,48 +1,50 @@
 -- What contracts see of a bank's row counters.
-use Rattle.std.specs.Prelude.{ℕ, ◌+◌, ◌<◌, ◌≤◌, ◌^◌, nat_le, if◌then◌else◌, List, length, replicate, Option, Some, None}
-use Rattle.speed_bin.specs.declared.settings.Settings.{Settings}
-use Rattle.speed_bin.specs.Counters.{Counter, tracked, count_of, after_close, after_mitigation}
+use Rattle.std.specs.Prelude.{◌≡◌, ℕ, ◌+◌, ◌<◌, ◌≤◌, ◌^◌, List}
+use Rattle.row_order.specs.Entries.{Entry, count_in}
+use Rattle.row_order.specs.Standing.{Held as Order, no_order, StandsFor as OrderStandsFor}
 use Rattle.speed_bin.specs.Height.{height_of}
 
--- the two thresholds, the counter of each row, and how many closings and mitigations there were
+-- the two thresholds, the rows with their counts in the order of their last change, and how many closings and
+-- mitigations there were
 pub record Held : Type 0 where
   pub ath : ℕ
   pub eth : ℕ
-  pub counters : List Counter
+  pub order : Order
   pub changes : ℕ
 
--- no row was closed
-abbrev pub fresh : Settings → Held
-fresh s = record { ath = s.ath; eth = s.eth; counters = replicate s.rows (record { count = 0; stamp = 0 }); changes = 0 }
-
--- the row to mitigate next, and its count
-abbrev pub tracked_row : Held → ℕ
-tracked_row it = tracked it.counters
-
-abbrev pub tracked_count : Held → ℕ
-tracked_count it = count_of it.counters (tracked it.counters)
-
--- the row that a mitigation resets: the tracked one, if its count is at least ETH
-abbrev pub target : Held → Option ℕ
-target it = if nat_le it.eth (tracked_count it) then Some (tracked_row it) else None
-
--- after one more closing of the row
-abbrev pub with_closing : Held → ℕ → Held
-with_closing it row = record it { counters = after_close (it.changes + 1) (Some row) it.counters; changes = it.changes + 1 }
-
--- after a mitigation of the row, if there is one
-abbrev pub with_mitigation : Held → Option ℕ → Held
-with_mitigation it None = it
-with_mitigation it (Some row) = record it { counters = after_mitigation (it.changes + 1) (Some row) it.counters; changes = it.changes + 1 }
+-- the row is one of the bank's
+abbrev pub HasRow : Held → ℕ → Type 0
+HasRow it row = row < it.order.rows
 
 -- one more closing of the row can be counted: it is one of the bank's, and its count is below the greatest that the
 -- rules of a log let it reach
 pub record MayClose (it : Held) (row : ℕ) : Type 0 where
-  pub inside : row < length it.counters
-  pub below : count_of it.counters row < it.ath + height_of 3 (length it.counters) + 3
+  pub inside : row < it.order.rows
+  pub below : ∥ ((es : List Entry) × (OrderStandsFor it.order es) × (count_in es row < it.ath + height_of 3 it.order.rows + 3)) ∥₁
   pub changes : it.changes < 2 ^ 48
 
--- the rows are 1 to 65,536, and ATH is at most 1,023
+-- one more mitigation can be counted
+abbrev pub MayMitigate : Held → Type 0
+MayMitigate it = it.changes < 2 ^ 48
+
+-- what a place of a list that has none reads as: counters of no row
+abbrev pub no_rows : Held
+no_rows = record {
+  ath = 0;
+  eth = 0;
+  order = no_order;
+  changes = 0;
+}
+
+-- what a change of a row leaves: the thresholds, the rows, and one change more
+pub record IsOneMore (it new : Held) : Type 0 where
+  pub ath : new.ath ≡ it.ath
+  pub eth : new.eth ≡ it.eth
+  pub rows : new.order.rows ≡ it.order.rows
+  pub changes : new.changes ≡ it.changes + 1
+
+-- the rows are 1 to 65,536, ATH is at most 1,023, and the counts have the levels that the rules of a log let them reach
 pub record IsBank (it : Held) : Type 0 where
-  pub rows : (1 ≤ length it.counters) × (length it.counters ≤ 65536)
+  pub rows : (1 ≤ it.order.rows) × (it.order.rows ≤ 65536)
   pub ath : it.ath ≤ 1023
+  pub levels : it.order.levels ≡ it.ath + height_of 3 it.order.rows + 4

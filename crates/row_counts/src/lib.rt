@@ -2,8 +2,8 @@
 #![tactic(auto)]
 
 mod bank_counts;
-mod counter;
 mod heights;
+pub mod laws;
 
 pub use bank_counts::BankCounts;
 pub use heights::height;

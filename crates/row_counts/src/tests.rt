@@ -2,7 +2,10 @@ ghost use Rattle.std.specs.Prelude.{◌≡◌, ◌+◌, ◌<◌, ◌≤◌, ◌^
 
 use crate::{BankCounts, height};
 use command_words::Row;
+use rand_core::utils::NextWord;
+use rand_pcg::Pcg32;
 use speed_bin::{RefreshMode, Settings};
+use std::alloc::Global;
 use std::test::Fail;
 
 const ONE_ROW: Settings = Settings {
@@ -25,6 +28,16 @@ const TWO_ROWS: Settings = Settings {
     ecs_every: 0,
 };
 
+const MANY_ROWS: Settings = Settings {
+    rows: 64,
+    ath: 64,
+    eth: 4,
+    raaimt: 32,
+    raammt: 64,
+    refresh: RefreshMode::All,
+    ecs_every: 0,
+};
+
 #[test]
 fn heights_of_powers_of_two(rt: HostRuntime) {
     let cases = [(1, 0), (8, 7), (16, 9), (64, 14), (1024, 24), (65_536, 38)];
@@ -36,10 +49,10 @@ fn heights_of_powers_of_two(rt: HostRuntime) {
 // Closes the rows in turn, and stops at one whose closing cannot be counted.
 fn close_each(counts: &mut BankCounts, settings: &Settings, rows: &[u32]) -> bool
     requires ath { counts.old.ath ≡ settings.now.ath }
-    requires rows { length counts.old.counters ≡ settings.now.rows }
+    requires rows { counts.old.order.rows ≡ settings.now.rows }
     requires changes { counts.old.changes + length rows.now < 2 ^ 48 }
     ensures ath { counts.new.ath ≡ settings.now.ath }
-    ensures rows { length counts.new.counters ≡ settings.now.rows }
+    ensures rows { counts.new.order.rows ≡ settings.now.rows }
     ensures changes { counts.new.changes ≤ counts.old.changes + length rows.now }
 {
     for number in rows {
@@ -84,4 +97,96 @@ fn of_two_equal_rows_the_older_is_tracked(rt: HostRuntime) -> Result<(), Fail> {
     assert_eq!(rt; counts.mitigate(), Some(second));
     assert_eq!(rt; counts.tracked(), (first, 6));
     Ok(())
+}
+
+// The plain program: of each row the count and the number of its last change.
+#[derive(Drop)]
+struct Tables {
+    counts: [u32; 64],
+    stamps: [u32; 64],
+}
+
+impl Tables {
+    // Of the rows with the greatest count the one that was changed least recently, the least of those that never were.
+    fn tracked(&self) -> (u32, u32) {
+        let mut best = (0, self.counts[0], self.stamps[0]);
+        for row in 1u32..64 {
+            let count = self.counts[row as usize];
+            let stamp = self.stamps[row as usize];
+            if count > best.1 || (count == best.1 && stamp < best.2) {
+                best = (row, count, stamp);
+            }
+        }
+        (best.0, best.1)
+    }
+
+    // The row has this count by this change.
+    fn put(&mut self, row: u32, count: u32, stamp: u32) {
+        if row < 64 {
+            self.counts[row as usize] = count;
+            self.stamps[row as usize] = stamp;
+        }
+    }
+
+    fn close(&mut self, row: u32, stamp: u32) {
+        if row < 64 {
+            self.put(row, self.counts[row as usize].saturating_add(1), stamp);
+        }
+    }
+
+    fn mitigate(&mut self, eth: u32, stamp: u32) -> Option<u32> {
+        let (row, count) = self.tracked();
+        if count < eth {
+            return None;
+        }
+        self.put(row, 0, stamp);
+        Some(row)
+    }
+}
+
+// The row that is mitigated, by its number.
+fn mitigated(counts: &mut BankCounts) -> Option<u32>
+    requires changes { counts.old.changes < 2 ^ 48 }
+    ensures ath { counts.new.ath ≡ counts.old.ath }
+    ensures rows { counts.new.order.rows ≡ counts.old.order.rows }
+    ensures changes { counts.new.changes ≤ counts.old.changes + 1 }
+{
+    match counts.mitigate() {
+        Some(row) => Some(row.get()),
+        None => None,
+    }
+}
+
+// Of so many random changes, each fourth of them a mitigation, the number before the first after which the counters and
+// the tables differ.
+fn agreed(alloc: Global, changes: u32) -> Option<u32> {
+    let mut counts = BankCounts::new(alloc, &MANY_ROWS).ok()?;
+    let mut tables = Tables {
+        counts: [0; 64],
+        stamps: [0; 64],
+    };
+    let mut words = Pcg32::new(42, 54);
+    for step in 0..changes {
+        let number = words.next_word() % 64;
+        if words.next_word() % 4 == 0 {
+            if mitigated(&mut counts) != tables.mitigate(MANY_ROWS.eth, step + 1) {
+                return Some(step);
+            }
+        } else {
+            if !close_each(&mut counts, &MANY_ROWS, &[number]) {
+                return None;
+            }
+            tables.close(number, step + 1);
+        }
+        let (row, count) = counts.tracked();
+        if (row.get(), count) != tables.tracked() {
+            return Some(step);
+        }
+    }
+    Some(changes)
+}
+
+#[test]
+fn answers_as_the_tables(rt: HostRuntime) {
+    assert_eq!(rt; agreed(rt.alloc(), 1000), Some(1000));
 }

@@ -1,0 +1,9 @@
+use Rattle.std.proofs.Common.{◌≡◌, ◌≤◌}
+use Rattle.row_counts.proofs.tests.agreed.Given as goal
+
+abbrev pub invariant-loop-step : goal.invariant-loop-step
+invariant-loop-step l = record {
+  ath : l.counts.ath ≡ 64;
+  rows : l.counts.order.rows ≡ 64;
+  changes : l.counts.changes ≤ l.step;
+}

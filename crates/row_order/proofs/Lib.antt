@@ -1,0 +1,5 @@
+pub mod EntryLemmas
+mod RunLemmas
+mod MarkLemmas
+mod BucketLemmas
+mod StandingLemmas
