@@ -1,0 +1,5 @@
+use Rattle.deadlines.proofs.Wholes.{keeps_turn, turn_sixth, turn_seventh, turn_eighth, turn_thirteenth, turn_raised, turn_owing}
+use Rattle.deadlines.proofs.laws.turn.Goals as goal
+
+pub returns : goal.returns
+returns c = record { keeps = keeps_turn; sixth = turn_sixth; seventh = turn_seventh; eighth = turn_eighth; thirteenth = turn_thirteenth; raised = turn_raised; owing = turn_owing }

@@ -1,0 +1,11 @@
+pub mod Blocking
+pub mod Owing
+pub mod Tasks
+pub mod Turns
+pub mod Stages
+pub mod Rounds
+pub mod Backoffs
+pub mod Timely
+pub mod Counts
+pub mod Pace
+pub mod Standing

@@ -1,0 +1,7 @@
+pub mod Queue
+pub mod Order
+pub mod Choice
+pub mod Window
+pub mod Owed
+pub mod Page
+pub mod Requested
