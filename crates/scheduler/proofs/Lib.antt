@@ -1,0 +1,17 @@
+mod First
+mod Best
+mod Spaced
+mod Tools
+mod Ready
+mod Parts
+mod Offering
+mod Tasked
+mod Serving
+mod Resting
+mod Starting
+mod Deciding
+mod Turning
+mod Offered
+mod Unraised
+mod Taken
+mod Tallied

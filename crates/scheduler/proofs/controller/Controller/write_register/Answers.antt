@@ -1,0 +1,32 @@
+use Rattle.std.proofs.Common.{◌≡◌, subst, slice_get, Some}
+use Rattle.scheduler.proofs.Starting.{write_ready}
+use Rattle.scheduler.proofs.controller.Controller.write_register.Goals as goal
+
+pub issue_soonest-requires : goal.issue_soonest-requires
+issue_soonest-requires c =
+    let a = c.requires.awake in
+    let self = c.args.self.now in record {
+      ready = (
+        self.ledger.from,
+        self.until,
+        self.finished,
+        a.0,
+        a.1,
+        a.2,
+        a.3,
+        write_ready c.turn_laws.ensures self a.0 a.1 a.2 a.3 c.write_at.result a.4 c.requires.bound c.requires.starting (subst (λ ws. slice_get ws self.ledger.written ≡ Some c.write_at.result) c.as_slice.ensures.value c.write_at.ensures),
+      );
+    }
+
+pub returns-clause-after : goal.returns-clause-after
+returns-clause-after c = λ h offered idle log a.
+    let self = c.args.self.now in
+    c.issue_soonest.ensures.after self.ledger.from self.until self.finished h offered idle log
+    (write_ready c.turn_laws.ensures self h offered idle log c.write_at.result a c.requires.bound c.requires.starting (subst (λ ws. slice_get ws self.ledger.written ≡ Some c.write_at.result) c.as_slice.ensures.value c.write_at.ensures))
+
+pub returns-clause-bound : goal.returns-clause-bound
+returns-clause-bound c =
+    let a = c.requires.awake in
+    let self = c.args.self.now in
+    c.issue_soonest.ensures.bound self.ledger.from self.until self.finished a.0 a.1 a.2 a.3
+    (write_ready c.turn_laws.ensures self a.0 a.1 a.2 a.3 c.write_at.result a.4 c.requires.bound c.requires.starting (subst (λ ws. slice_get ws self.ledger.written ≡ Some c.write_at.result) c.as_slice.ensures.value c.write_at.ensures))

@@ -1,0 +1,100 @@
+//! Which task a turn serves.
+ghost use Rattle.std.specs.Prelude.{◌≡◌, ℕ, ◌+◌, ◌<◌, ◌≤◌, ◌^◌, List, Option, Some, None, Bool, true, false, max, IfSome, IfNone, IsSome};
+ghost use Rattle.speed_bin.specs.Alert.{alert as alert_of};
+ghost use Rattle.speed_bin.specs.declared.header.Header.{Header as AnyHeader};
+ghost use Rattle.requests.specs.Queue.{Step, places};
+ghost use Rattle.requests.specs.declared.request.Request.{Request as AnyRequest};
+ghost use Rattle.deadlines.specs.Turns.{LooksTo};
+ghost use Rattle.scheduler.specs.Steps.{IsAwake, IsFree, IsErrand, IsPatient, refresh_task, soonest_in};
+
+use crate::Clock;
+use crate::choice::Candidate;
+use crate::controller::Controller;
+use crate::task::Errand;
+use deadlines::Task;
+use refresh_plan::Due;
+
+impl Controller {
+    /// Step 4. If the alert is raised, and a task is set, or there is no candidate, or e0 is above a + nABO, or an ECS is due,
+    /// or a refresh is due at e0, or an RFM is wanted, then the task becomes RFM of all banks.
+    fn must_back_off(&self, choice: Option<Candidate>, soonest: Clock) -> bool
+        requires small { soonest < 2 ^ 48 }
+        requires awake { (h : AnyHeader) × (offered : List AnyRequest) × (idle : ℕ) × (log : List Step) × IsAwake self.now h offered idle log }
+        ensures yes { (h : AnyHeader) (offered : List AnyRequest) (idle : ℕ) (log : List Step) → IsAwake self.now h offered idle log → result ≡ true → IsSome (alert_of h (places log)) }
+        ensures no { (h : AnyHeader) (offered : List AnyRequest) (idle : ℕ) (log : List Step) → IsAwake self.now h offered idle log → result ≡ false → IsPatient self.now h (places log) choice soonest }
+    {
+        let Some(last) = self.alert.last_activate(&self.header.timing) else {
+            return false;
+        };
+        if self.task.is_some() {
+            return true;
+        }
+        if choice.is_none() {
+            return true;
+        }
+        if soonest > last {
+            return true;
+        }
+        if self.ledger.plan.ecs_due() {
+            return true;
+        }
+        if self.ledger.plan.due(soonest).is_some() {
+            return true;
+        }
+        self.ledger.raa.wanted().is_some()
+    }
+
+    /// Step 5. If no task is set: if an ECS is due, the task is ECS; else if a refresh is due at e0 (a debt of two
+    /// intervals), the task is that refresh, and `now` becomes the greater of `now` and the least clock at which it is due;
+    /// else if an RFM is wanted, the task is RFM of the least bank address with a bank at RAAIMT.
+    pub(crate) fn errand_at(&self, choice: Option<Candidate>, soonest: Clock) -> Option<Errand>
+        requires small { soonest < 2 ^ 48 }
+        requires awake { (h : AnyHeader) × (offered : List AnyRequest) × (idle : ℕ) × (log : List Step) × IsAwake self.now h offered idle log }
+        ensures none { IfNone result ((h : AnyHeader) (offered : List AnyRequest) (idle : ℕ) (log : List Step) → IsAwake self.now h offered idle log → IsFree self.now h (places log) choice soonest) }
+        ensures some { IfSome result (λ errand. (h : AnyHeader) (offered : List AnyRequest) (idle : ℕ) (log : List Step) → IsAwake self.now h offered idle log
+            → LooksTo h (places log) self.now.ledger.from self.now.until soonest → self.now.ledger.from ≤ soonest
+            → IsErrand self.now h (places log) soonest errand) }
+    {
+        let start = self.ledger.from;
+        if self.must_back_off(choice, soonest) {
+            let task = Task::RfmAll;
+            return Some(Errand { task, start });
+        }
+        if let Some(task) = self.task {
+            return Some(Errand { task, start });
+        }
+        if self.ledger.plan.ecs_due() {
+            let task = Task::Ecs;
+            return Some(Errand { task, start });
+        }
+        if let Some(due) = self.ledger.plan.due(soonest) {
+            let task = refresh_of(due);
+            let start = start.max(self.ledger.plan.next_due());
+            return Some(Errand { task, start });
+        }
+        if let Some(address) = self.ledger.raa.wanted() {
+            let task = Task::RfmSame(address);
+            return Some(Errand { task, start });
+        }
+        None
+    }
+}
+
+fn refresh_of(due: Due) -> Task
+    ensures { result ≡ refresh_task due }
+{
+    match due {
+        Due::All => Task::RefAll,
+        Due::Same(address) => Task::RefSame(address),
+    }
+}
+
+/// Step 3. e0 is the least e of the candidates; without candidates it is the greater of `now` and the idle target.
+pub(crate) fn soonest_of(choice: Option<Candidate>, from: Clock, until: Clock) -> Clock
+    ensures { result ≡ soonest_in choice from until }
+{
+    match choice {
+        Some(candidate) => candidate.clock,
+        None => from.max(until),
+    }
+}

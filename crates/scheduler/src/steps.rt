@@ -1,0 +1,246 @@
+//! One turn of the controller, by the numbered steps of the policy.
+ghost use Rattle.std.specs.Prelude.{◌≡◌, ℕ, ◌+◌, ◌<◌, ◌≤◌, ◌^◌, List, [], ◌∷◌, length, Option, Some, None, Bool, true, false, max, is_some, IfSome, IfNone, IsTrue, ◌↔◌, slice_get};
+ghost use Rattle.speed_bin.specs.Alert.{alert as alert_of};
+ghost use Rattle.speed_bin.specs.Kinds.{is_rfm_all};
+ghost use Rattle.speed_bin.specs.Log.{Log};
+ghost use Rattle.speed_bin.specs.declared.header.Header.{Header as AnyHeader};
+ghost use Rattle.command_words.specs.declared.command.Command.TheVariants.{Mrw as AnyMrw, PreAb as AnyPreAb};
+ghost use Rattle.command_words.specs.declared.command.Mrw.{Mrw as Write};
+ghost use Rattle.requests.specs.Queue.{Step, places};
+ghost use Rattle.requests.specs.declared.request.Request.{Request as AnyRequest};
+ghost use Rattle.scheduler.specs.declared.choice.Class.TheVariants.{Column};
+ghost use Rattle.scheduler.specs.Controller.{Holds, StandsFor, After, AtRest, from_of, until_of, finished_of};
+ghost use Rattle.scheduler.specs.Ledger.{StandsFor as LedgerStandsFor, MayIssue, Suits};
+ghost use Rattle.scheduler.specs.Steps.{IsAwake, IsReady, IsReadySoon, IsReadyFor, IsErrand, IsServing, IsResting, alert_left};
+ghost use Rattle.scheduler.specs.Laws.{Laws, DeadlineLaws, RequestLaws};
+
+use crate::Clock;
+use crate::choice::{Candidate, Class, choose, command_for, waiting_at};
+use crate::controller::Controller;
+use crate::decision::soonest_of;
+use crate::task::{Errand, command_of, owed_for, precharge_of};
+use crate::turn::Turn;
+use backoff::Alert;
+use command_words::{Command, Mrw};
+use deadlines::Task;
+use requests::RequestId;
+
+#[tactic(auto, unfolding(crate::specs::Controller::StandsFor, crate::specs::Controller::from_of, crate::specs::Controller::until_of, crate::specs::Controller::finished_of))]
+impl Controller {
+    /// One turn. `alert` says whether the device's alert is raised; `now` is below 2^47.
+    pub fn next(&mut self, alert: bool) -> Turn
+        requires bound { from_of self.old < 2 ^ 47 }
+        requires stands { (h : AnyHeader) × (offered : List AnyRequest) × (idle : ℕ) × (log : List Step) × (StandsFor h self.old offered idle log) × (alert ≡ is_some (alert_of h (places log))) }
+        ensures after { (h : AnyHeader) (offered : List AnyRequest) (idle : ℕ) (log : List Step) → StandsFor h self.old offered idle log → alert ≡ is_some (alert_of h (places log))
+            → After result (from_of self.old) (until_of self.old) (finished_of self.old) h self.new offered idle log }
+        ensures bound { from_of self.new ≤ max (from_of self.old) (until_of self.old) + 2 ^ 15 }
+        ensures until { until_of self.new ≡ until_of self.old }
+        ensures finished { finished_of self.new ≡ finished_of self.old }
+    {
+        self.see(alert);
+        if self.ledger.written < 8 {
+            return self.write_register();
+        }
+        let choice = choose(self.queue.as_slice(), &self.ledger, &[true; 32]);
+        let soonest = soonest_of(choice, self.ledger.from, self.until);
+        turn_laws();
+        if let Some(errand) = self.errand_at(choice, soonest) {
+            return self.serve_task(errand);
+        }
+        match choice {
+            Some(candidate) => self.issue_candidate(&candidate, None),
+            None => self.rest(),
+        }
+    }
+}
+
+impl Controller {
+    // An alert that was not seen before came with the last command.
+    fn see(&mut self, alert: bool)
+        requires { (h : AnyHeader) × (offered : List AnyRequest) × (idle : ℕ) × (log : List Step) × (Holds h self.old offered idle log) × (alert ≡ is_some (alert_of h (places log))) }
+        ensures awake { (h : AnyHeader) (offered : List AnyRequest) (idle : ℕ) (log : List Step) → Holds h self.old offered idle log → alert ≡ is_some (alert_of h (places log))
+            → IsAwake self.new h offered idle log }
+        ensures rest { self.new ≡ record self.old { alert = self.new.alert } }
+    {
+        if alert {
+            self.alert.after_precharge(self.ledger.from - 1, true, true);
+        }
+    }
+
+    /// Step 1. While fewer than eight register writes were issued, the next one is issued at its e.
+    fn write_register(&mut self) -> Turn
+        requires bound { self.old.ledger.from < 2 ^ 47 }
+        requires starting { self.old.ledger.written < 8 }
+        requires awake { (h : AnyHeader) × (offered : List AnyRequest) × (idle : ℕ) × (log : List Step) × IsAwake self.old h offered idle log }
+        ensures after { (h : AnyHeader) (offered : List AnyRequest) (idle : ℕ) (log : List Step) → IsAwake self.old h offered idle log
+            → After result self.old.ledger.from self.old.until self.old.finished h self.new offered idle log }
+        ensures bound { self.new.ledger.from ≤ max self.old.ledger.from self.old.until + 2 ^ 15 }
+        ensures until { self.new.until ≡ self.old.until }
+        ensures finished { self.new.finished ≡ self.old.finished }
+    {
+        turn_laws();
+        let command = Command::Mrw(write_at(self.writes.as_slice(), self.ledger.written));
+        self.issue_soonest(command, None)
+    }
+
+    /// Step 6. If a task is set, one command is issued, at its e, by the first of these cases that holds. A bank that the task
+    /// covers is owed: each such bank offers the RD or WR of its oldest hit, and the one with the least e is issued, among
+    /// equals that of the oldest request. A bank that the task covers is open: PREab for a task that covers all banks, and
+    /// otherwise PREsb of the task's address. Neither holds: the task's command, and the task is dropped.
+    fn serve_task(&mut self, errand: Errand) -> Turn
+        requires bound { self.old.ledger.from < 2 ^ 47 }
+        requires serving { (h : AnyHeader) × (offered : List AnyRequest) × (idle : ℕ) × (log : List Step) × IsServing self.old h offered idle log errand }
+        ensures after { (h : AnyHeader) (offered : List AnyRequest) (idle : ℕ) (log : List Step) → IsServing self.old h offered idle log errand
+            → After result self.old.ledger.from self.old.until self.old.finished h self.new offered idle log }
+        ensures bound { self.new.ledger.from ≤ max self.old.ledger.from self.old.until + 2 ^ 15 }
+        ensures until { self.new.until ≡ self.old.until }
+        ensures finished { self.new.finished ≡ self.old.finished }
+    {
+        turn_laws();
+        self.ledger.wait_until(errand.start);
+        let asked = owed_for(&errand.task, &self.ledger.owed);
+        if let Some(candidate) = choose(self.queue.as_slice(), &self.ledger, &asked) {
+            return self.issue_candidate(&candidate, Some(errand.task));
+        }
+        let command = command_of(&errand.task);
+        if !self.ledger.fits(&command) {
+            return self.issue_soonest(precharge_of(&errand.task), Some(errand.task));
+        }
+        self.issue_soonest(command, None)
+    }
+
+    /// Step 7. If no task is set and there are candidates, the one with the least e is issued; among equals RD and WR come
+    /// before ACT, ACT before PREpb, then the oldest request. The request of a PREpb is the oldest of its bank.
+    fn issue_candidate(&mut self, candidate: &Candidate, task: Option<Task>) -> Turn
+        requires ready { (from : ℕ) × (until : ℕ) × (finished : Bool) × (h : AnyHeader) × (offered : List AnyRequest) × (idle : ℕ) × (log : List Step) × IsReadyFor self.old from until finished h offered idle log candidate.now task }
+        ensures after { (from until : ℕ) (finished : Bool) (h : AnyHeader) (offered : List AnyRequest) (idle : ℕ) (log : List Step) → IsReadyFor self.old from until finished h offered idle log candidate.now task
+            → After result from until finished h self.new offered idle log }
+        ensures from { self.new.ledger.from ≡ candidate.now.clock + 1 }
+        ensures until { self.new.until ≡ self.old.until }
+        ensures finished { self.new.finished ≡ self.old.finished }
+    {
+        turn_laws();
+        let waiting = waiting_at(self.queue.as_slice(), candidate.at);
+        let command = command_for(candidate.class, &waiting);
+        self.issue(candidate.clock, &command, task);
+        if is_column(candidate.class) {
+            self.queue.remove(candidate.at);
+            Turn::Issue(candidate.clock, command, Some(RequestId(waiting.id)))
+        } else {
+            Turn::Issue(candidate.clock, command, None)
+        }
+    }
+
+    /// Step 8. Otherwise `now` becomes e0. If no end was announced the answer is Idle. If a bank is open, PREab is issued at
+    /// its e. Else the answer is Done.
+    fn rest(&mut self) -> Turn
+        requires bound { self.old.ledger.from < 2 ^ 47 }
+        requires resting { (h : AnyHeader) × (offered : List AnyRequest) × (idle : ℕ) × (log : List Step) × IsResting self.old h offered idle log }
+        ensures after { (h : AnyHeader) (offered : List AnyRequest) (idle : ℕ) (log : List Step) → IsResting self.old h offered idle log
+            → After result self.old.ledger.from self.old.until self.old.finished h self.new offered idle log }
+        ensures bound { self.new.ledger.from ≤ max self.old.ledger.from self.old.until + 2 ^ 15 }
+        ensures until { self.new.until ≡ self.old.until }
+        ensures finished { self.new.finished ≡ self.old.finished }
+    {
+        turn_laws();
+        let soonest = self.ledger.from.max(self.until);
+        self.ledger.wait_until(soonest);
+        if !self.finished {
+            return Turn::Idle;
+        }
+        if self.ledger.banks.all_closed() {
+            return Turn::Done;
+        }
+        self.issue_soonest(Command::PreAb, None)
+    }
+
+    // Issues a command that serves no request, at its e, and leaves this task.
+    fn issue_soonest(&mut self, command: Command, task: Option<Task>) -> Turn
+        requires ready { (from : ℕ) × (until : ℕ) × (finished : Bool) × (h : AnyHeader) × (offered : List AnyRequest) × (idle : ℕ) × (log : List Step) × IsReadySoon self.old from until finished h offered idle log command task }
+        ensures after { (from until : ℕ) (finished : Bool) (h : AnyHeader) (offered : List AnyRequest) (idle : ℕ) (log : List Step) → IsReadySoon self.old from until finished h offered idle log command task
+            → After result from until finished h self.new offered idle log }
+        ensures bound { (from until : ℕ) (finished : Bool) (h : AnyHeader) (offered : List AnyRequest) (idle : ℕ) (log : List Step) → IsReadySoon self.old from until finished h offered idle log command task
+            → self.new.ledger.from ≤ max from until + 2 ^ 15 }
+        ensures until { self.new.until ≡ self.old.until }
+        ensures finished { self.new.finished ≡ self.old.finished }
+    {
+        turn_laws();
+        let clock = self.ledger.soonest(&command);
+        self.issue(clock, &command, task);
+        Turn::Issue(clock, command, None)
+    }
+
+    // Issues a command at this clock, and leaves this task.
+    fn issue(&mut self, clock: Clock, command: &Command, task: Option<Task>)
+        requires small { clock + 1 < 2 ^ 48 }
+        requires may { MayIssue self.old.ledger clock command.now }
+        ensures ledger { (h : AnyHeader) (log : Log) → LedgerStandsFor self.old.ledger h log → Suits self.old.ledger h log clock command.now
+            → LedgerStandsFor self.new.ledger h (record { clock = clock; command = command.now } ∷ log) }
+        ensures from { self.new.ledger.from ≡ clock + 1 }
+        ensures alert { self.new.alert ≡ alert_left command.now self.old.alert }
+        ensures rest { self.new ≡ record self.old { ledger = self.new.ledger; alert = self.new.alert; task = task } }
+    {
+        self.ledger.issue(clock, command);
+        take_back(&mut self.alert, command);
+        self.task = task;
+    }
+}
+
+// The laws of the deadlines and of the requests that a turn rests on.
+fn turn_laws()
+    ensures { Laws }
+{
+    deadline_laws();
+    request_laws();
+}
+
+fn deadline_laws()
+    ensures { DeadlineLaws }
+{
+    deadlines::laws::start();
+    deadlines::laws::turn();
+    deadlines::laws::soon();
+    deadlines::laws::rest();
+}
+
+fn request_laws()
+    ensures { RequestLaws }
+{
+    requests::laws::after_excuse();
+    requests::laws::after_column();
+    requests::laws::after_activate();
+    requests::laws::after_precharge();
+    requests::laws::after_closing();
+    requests::laws::after_management();
+    requests::laws::after_write();
+    requests::laws::spared();
+    requests::laws::queued();
+}
+
+// The register write with this number, from 0.
+fn write_at(writes: &[Mrw], at: usize) -> Mrw
+    requires eight { length writes.now ≡ 8 }
+    requires low { at < 8 }
+    ensures { slice_get writes.now at ≡ Some result }
+{
+    writes[at]
+}
+
+fn is_column(class: Class) -> bool
+    ensures { IsTrue result ↔ (class ≡ Column) }
+{
+    match class {
+        Class::Column => true,
+        Class::Activate => false,
+        Class::Precharge => false,
+    }
+}
+
+// An RFMab takes the alert back.
+fn take_back(alert: &mut Alert, command: &Command)
+    ensures { alert.new ≡ alert_left command.now alert.old }
+{
+    if let Command::RfmAb = command {
+        alert.after_rfm_all();
+    }
+}
