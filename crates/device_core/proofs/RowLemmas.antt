@@ -1,0 +1,215 @@
+-- What a legal command asks of the counters, and what it makes of the peak.
+use Rattle.std.proofs.Common.{◌≡◌, ◌∙◌, ℕ, zero, suc, ◌+◌, ◌*◌, ◌^◌, ◌<◌, ◌≤◌, Bool, true, false, cond, ◌==◌, nat_le, refl, sym, ap, subst, arith, Option, Some, None, is_some, List, ◌∷◌, length, max, eq-eqb, ltb-true}
+use native.Mathlib.Bridge.{le_prop}
+use Rattle.std.proofs.Math.Logic.{∥∥₁_elim, ∥∥₁_map}
+use Rattle.command_words.specs.Command.{bank_number, IsBank}
+use Rattle.command_words.specs.declared.command.Command.{Command}
+use Rattle.command_words.specs.declared.command.Command.TheVariants.{Act}
+use Rattle.command_words.specs.declared.place.Bank.{Bank}
+use Rattle.speed_bin.specs.declared.header.Header.{Header}
+use Rattle.speed_bin.specs.Alert.{closes}
+use Rattle.speed_bin.specs.Counters.{acts, cnt}
+use Rattle.speed_bin.specs.Counts.{acts_opened, peak}
+use Rattle.speed_bin.specs.Header.{IsAccepted, bound, spare}
+use Rattle.speed_bin.specs.Height.{height_of, greatest_upto}
+use Rattle.speed_bin.specs.Kinds.{Effect, Opens, Closes, Manages, Refreshes, Leaves, is_act}
+use Rattle.speed_bin.specs.Log.{Log, open_at}
+use Rattle.speed_bin.specs.Marks.{Keeps as KeepsRules}
+use Rattle.speed_bin.proofs.Tests.{none_from_test}
+use Rattle.bank_state.specs.Standing.{Fits, StandsFor as BanksFor, MayIssue as MayFit}
+use Rattle.row_counts.specs.Held.{Held, HasRow, MayClose, MayMitigate}
+use Rattle.row_counts.specs.Standing.{StandsFor as CountsFor}
+use Rattle.device_core.specs.Legal.{IsLegal, AllLegal}
+use Rattle.device_core.specs.Rows.{Keeps, StandsFor, BankFor, MayIssue, MayTouch, bank_at, touch_of}
+use Rattle.device_core.specs.declared.activations.Activations.{Activations}
+use Rattle.device_core.specs.declared.bank_rows.Touch.{Touch}
+use Rattle.device_core.specs.declared.bank_rows.Touch.TheVariants.{Counts, Mitigates, Spares}
+use Rattle.device_core.proofs.Rules.{passes, keeps_log, short_log, sound, open_inside}
+
+abbrev pub Bounded : Type 0
+Bounded = (h : Header) (b row : ℕ) (log : Log) → IsAccepted h → b < 32 → row < h.settings.rows → KeepsRules h log → acts h b row log ≤ bound h
+
+abbrev pub MayCloseLaw : Type 0
+MayCloseLaw = (it : Held) (h : Header) (b row : ℕ) (log : Log) → CountsFor it h b log → row < h.settings.rows → cnt h b row log < h.settings.ath + height_of 3 h.settings.rows + 3 → length log < 2 ^ 48 → MayClose it row
+
+abbrev pub MayMitigateLaw : Type 0
+MayMitigateLaw = (it : Held) (h : Header) (b : ℕ) (log : Log) → CountsFor it h b log → length log < 2 ^ 48 → MayMitigate it
+
+pub fits : (h : Header) (clock : ℕ) (command : Command) (log : Log) → IsLegal h clock command log → Fits command log
+fits h clock command log legal = let k = passes h clock command log legal in record { fourth = k.1.1.1.0; fifth = k.1.1.1.1.0 }
+
+-- ---- Closings
+
+-- the counter of an open row is below the bound, since its last activation is not counted yet
+below_bound : (bounded : Bounded) (h : Header) (b row : ℕ) (log : Log) → IsAccepted h → AllLegal h log → b < 32 → open_at b log ≡ Some row → cnt h b row log < h.settings.ath + height_of 3 h.settings.rows + 3
+unfolding spare
+below_bound bounded h b row log accepted legal low is =
+    let s = sound h b log accepted legal low in
+    let most : acts h b row log ≤ h.settings.ath + height_of 3 h.settings.rows + 3 = bounded h b row log accepted low (s.inside row is) (keeps_log h log legal) in
+    let t : (row == row) ≡ true = eq-eqb row row refl in
+    let a = s.agree row in
+    let e : acts h b row log ≡ cnt h b row log + 1 = rw (is, t) at a in
+    omega arith
+
+closable : (bounded : Bounded) (law : MayCloseLaw) (it : Activations) (h : Header) (clock : ℕ) (command : Command) (b row : ℕ) (log : Log) → b < 32 → StandsFor it h log → IsLegal h clock command log → Some row ≡ open_at b log → MayClose (bank_at it.banks.items b).counts row
+unfolding StandsFor
+closable bounded law it h clock command b row log low s legal is =
+    law (bank_at it.banks.items b).counts h b row log (s.counts b low).counts (open_inside h b row log s.accepted s.legal low (sym is))
+    (below_bound bounded h b row log s.accepted s.legal low (sym is)) (short_log h clock command log s.legal legal)
+
+mitigable : (law : MayMitigateLaw) (it : Activations) (h : Header) (clock : ℕ) (command : Command) (b : ℕ) (log : Log) → b < 32 → StandsFor it h log → IsLegal h clock command log → MayMitigate (bank_at it.banks.items b).counts
+unfolding StandsFor
+mitigable law it h clock command b log low s legal = law (bank_at it.banks.items b).counts h b log (s.counts b low).counts (short_log h clock command log s.legal legal)
+
+-- what holds of counters by some log
+pub record BySomeLog : Type 0 where
+  pub close : (it : Held) (row : ℕ) → ∥ MayClose it row ∥₁ → MayClose it row
+  pub mitigate : (it : Held) → ∥ MayMitigate it ∥₁ → MayMitigate it
+
+-- each bank may count what the command does to it
+pub may_touch : (bounded : Bounded) (closing : MayCloseLaw) (mitigating : MayMitigateLaw) (by : BySomeLog) (it : Activations) (clock : ℕ) (command : Command) (b : ℕ) (touch : Touch) (open_row : Option ℕ) → b < 32 → MayIssue it clock command → ((h : Header) (log : Log) → StandsFor it h log → open_row ≡ open_at b log) → MayTouch touch open_row (bank_at it.banks.items b).counts
+may_touch bounded closing mitigating by it clock command b Counts (Some row) low may is = by.close (bank_at it.banks.items b).counts row (∥∥₁_map may (λ p. closable bounded closing it p.0 clock command b row p.1 low p.2 p.3 (is p.0 p.1 p.2)))
+may_touch bounded closing mitigating by it clock command b Counts None low may is = tt
+may_touch bounded closing mitigating by it clock command b Mitigates open_row low may is = by.mitigate (bank_at it.banks.items b).counts (∥∥₁_map may (λ p. mitigable mitigating it p.0 clock command b p.1 low p.2 p.3))
+may_touch bounded closing mitigating by it clock command b Spares open_row low may is = tt
+
+-- ---- What a precharge closes
+
+pub counts_closes_some : (e : Effect) (opened : Option ℕ) → Counts ≡ touch_of e → is_some opened ≡ closes e opened
+counts_closes_some Closes opened k = refl
+counts_closes_some (Opens row) opened k = absurd (cc)
+counts_closes_some Manages opened k = absurd (cc)
+counts_closes_some Refreshes opened k = absurd (cc)
+counts_closes_some Leaves opened k = absurd (cc)
+
+pub mitigates_closes_none : (e : Effect) (opened : Option ℕ) → Mitigates ≡ touch_of e → false ≡ closes e opened
+mitigates_closes_none Manages opened k = refl
+mitigates_closes_none Closes opened k = absurd (cc)
+mitigates_closes_none (Opens row) opened k = absurd (cc)
+mitigates_closes_none Refreshes opened k = absurd (cc)
+mitigates_closes_none Leaves opened k = absurd (cc)
+
+pub spares_closes_none : (e : Effect) (opened : Option ℕ) → Spares ≡ touch_of e → false ≡ closes e opened
+spares_closes_none (Opens row) opened k = refl
+spares_closes_none Refreshes opened k = refl
+spares_closes_none Leaves opened k = refl
+spares_closes_none Closes opened k = absurd (cc)
+spares_closes_none Manages opened k = absurd (cc)
+
+-- ---- The peak
+
+upto : (test : ℕ → Bool) (n : ℕ) → greatest_upto test n ≤ n
+upto test zero = omega arith
+upto test (suc n) = go (test (suc n)) (upto test n)
+  where
+    go : (t : Bool) → greatest_upto test n ≤ n → cond t (suc n) (greatest_upto test n) ≤ suc n
+    go true ih = omega arith
+    go false ih = omega arith
+
+height_few : (d rows : ℕ) → height_of d rows ≤ 64
+unfolding height_of
+height_few d rows = upto (λ k. nat_le (suc d ^ k) (rows * d ^ k)) 64
+
+-- the counter of a closed row counts all its activations
+acts_of_closed : (h : Header) (b row : ℕ) (log : Log) → IsAccepted h → AllLegal h log → b < 32 → open_at b log ≡ None → acts h b row log ≡ cnt h b row log
+acts_of_closed h b row log accepted legal low closed =
+    let a = (sound h b log accepted legal low).agree row in
+    let e : acts h b row log ≡ cnt h b row log + 0 = rw closed at a in
+    omega arith
+
+closed_at_act : (h : Header) (clock : ℕ) (bank : Bank) (row : ℕ) (log : Log) → IsLegal h clock (Act bank row) log → open_at (bank_number bank) log ≡ None
+closed_at_act h clock bank row log legal = none_from_test _ (passes h clock (Act bank row) log legal).1.1.1.0
+
+pub low_bank : (bank : Bank) → IsBank bank → bank_number bank < 32
+low_bank bank inside = let g = inside.group in let a = inside.address in omega arith
+
+-- an ACT adds one to the activations of its row
+pub one_more : (h : Header) (clock : ℕ) (bank : Bank) (row : ℕ) (log : Log) → IsAccepted h → AllLegal h log → IsLegal h clock (Act bank row) log → cnt h (bank_number bank) row log + 1 ≡ acts_opened h (Act bank row) (record { clock = clock; command = Act bank row } ∷ log)
+one_more h clock bank row log accepted legal here =
+    let closed = closed_at_act h clock bank row log here in
+    let own : (bank_number bank == bank_number bank) ≡ true = eq-eqb _ _ refl in
+    let same : (row == row) ≡ true = eq-eqb row row refl in
+    let before = acts_of_closed h (bank_number bank) row log accepted legal (low_bank bank here.in_range.0) closed in
+    rw (own, same) (omega arith)
+
+-- so the count of an ACT's row fits
+pub few : (bounded : Bounded) (h : Header) (clock : ℕ) (bank : Bank) (row : ℕ) (log : Log) → IsAccepted h → AllLegal h log → IsLegal h clock (Act bank row) log → row < h.settings.rows → cnt h (bank_number bank) row log ≤ 1090
+unfolding spare
+few bounded h clock bank row log accepted legal here low =
+    let b = low_bank bank here.in_range.0 in
+    let before = acts_of_closed h (bank_number bank) row log accepted legal b (closed_at_act h clock bank row log here) in
+    let most : acts h (bank_number bank) row log ≤ h.settings.ath + height_of 3 h.settings.rows + 3 = bounded h (bank_number bank) row log accepted b low (keeps_log h log legal) in
+    let tall = height_few 3 h.settings.rows in
+    let ath = accepted.settings.ath.1 in
+    omega arith
+
+-- ---- The activation of an ACT
+
+pub act_bank : (it : Activations) (clock : ℕ) (bank : Bank) (row : ℕ) → MayIssue it clock (Act bank row) → bank_number bank < length it.banks.items
+unfolding StandsFor
+act_bank it clock bank row may = ∥∥₁_elim may le_prop (λ p. go p.0 p.1 p.2 p.3)
+  where
+    go : (h : Header) (log : Log) → Keeps it h log → IsLegal h clock (Act bank row) log → bank_number bank < length it.banks.items
+    go h log s legal = rw s.banks (low_bank bank legal.in_range.0)
+
+abbrev pub HasRowLaw : Type 0
+HasRowLaw = (it : Held) (h : Header) (b row : ℕ) (log : Log) → CountsFor it h b log → row < h.settings.rows → HasRow it row
+
+abbrev pub RowBySomeLog : Type 0
+RowBySomeLog = (it : Held) (row : ℕ) → ∥ HasRow it row ∥₁ → HasRow it row
+
+pub act_row : (has : HasRowLaw) (by : RowBySomeLog) (it : Activations) (clock : ℕ) (bank : Bank) (row : ℕ) → MayIssue it clock (Act bank row) → HasRow (bank_at it.banks.items (bank_number bank)).counts row
+unfolding StandsFor
+act_row has by it clock bank row may = by (bank_at it.banks.items (bank_number bank)).counts row (∥∥₁_map may (λ p. go p.0 p.1 p.2 p.3))
+  where
+    go : (h : Header) (log : Log) → Keeps it h log → IsLegal h clock (Act bank row) log → HasRow (bank_at it.banks.items (bank_number bank)).counts row
+    go h log s legal = has (bank_at it.banks.items (bank_number bank)).counts h (bank_number bank) row log (s.counts (bank_number bank) (low_bank bank legal.in_range.0)).counts (ltb-true _ _ legal.row)
+
+pub act_fits : (bounded : Bounded) (it : Activations) (clock : ℕ) (bank : Bank) (row n : ℕ) → MayIssue it clock (Act bank row) → ((h : Header) (log : Log) → BankFor (bank_at it.banks.items (bank_number bank)) h (bank_number bank) log → n ≡ cnt h (bank_number bank) row log) → n ≤ 1090
+unfolding StandsFor
+act_fits bounded it clock bank row n may is = ∥∥₁_elim may le_prop (λ p. go p.0 p.1 p.2 p.3)
+  where
+    go : (h : Header) (log : Log) → Keeps it h log → IsLegal h clock (Act bank row) log → n ≤ 1090
+    go h log s legal =
+        let counted = is h log (s.counts (bank_number bank) (low_bank bank legal.in_range.0)) in
+        let small = few bounded h clock bank row log s.accepted s.legal legal (ltb-true _ _ legal.row) in
+        omega arith
+
+pub peak_at_act : (it : Activations) (h : Header) (clock : ℕ) (command : Command) (bank : Bank) (row n p : ℕ) (log : Log) → command ≡ Act bank row → (BankFor (bank_at it.banks.items (bank_number bank)) h (bank_number bank) log → n ≡ cnt h (bank_number bank) row log) → p ≡ max (n + 1) it.peak → StandsFor it h log → IsLegal h clock command log → p ≡ peak h (record { clock = clock; command = command } ∷ log)
+unfolding StandsFor
+peak_at_act it h clock command bank row n p log is counted most s legal = subst (λ (c : Command). IsLegal h clock c log → p ≡ peak h (record { clock = clock; command = c } ∷ log)) (sym is) go legal
+  where
+    go : IsLegal h clock (Act bank row) log → p ≡ peak h (record { clock = clock; command = Act bank row } ∷ log)
+    go here =
+        let count = counted (s.counts (bank_number bank) (low_bank bank here.in_range.0)) in
+        let more = one_more h clock bank row log s.accepted s.legal here in
+        let before = s.peak in
+        most ∙ ap (λ (m : ℕ). max (m + 1) it.peak) count ∙ ap (λ (m : ℕ). max m it.peak) more ∙ ap (λ (m : ℕ). max (acts_opened h (Act bank row) (record { clock = clock; command = Act bank row } ∷ log)) m) before
+
+pub peak_else : (it : Activations) (h : Header) (clock : ℕ) (command : Command) (log : Log) → is_act command ≡ false → StandsFor it h log → it.peak ≡ peak h (record { clock = clock; command = command } ∷ log)
+unfolding StandsFor
+peak_else it h clock command log other s = s.peak ∙ go command other
+  where
+    go : (c : Command) → is_act c ≡ false → peak h log ≡ max (acts_opened h c (record { clock = clock; command = c } ∷ log)) (peak h log)
+    go (Act bank row) e = absurd (cc)
+    go _ e = omega arith
+
+-- ---- Other conditions
+
+pub early : (it : Activations) (clock : ℕ) (command : Command) → MayIssue it clock command → clock < 2 ^ 48
+early it clock command may = ∥∥₁_elim may le_prop (λ p. p.3.in_time)
+
+-- there are 32 banks
+pub all_banks : (it : Activations) (clock : ℕ) (command : Command) → MayIssue it clock command → length it.banks.items ≡ 32
+unfolding StandsFor
+all_banks it clock command may =
+    let up : length it.banks.items ≤ 32 = ∥∥₁_elim may le_prop (λ p. let e = p.2.banks in omega arith) in
+    let down : 32 ≤ length it.banks.items = ∥∥₁_elim may le_prop (λ p. let e = p.2.banks in omega arith) in
+    omega arith
+
+pub may_fit : (it : Activations) (clock : ℕ) (command : Command) → MayIssue it clock command → MayFit it.rows command
+unfolding StandsFor
+may_fit it clock command may = ∥∥₁_map may (λ p. (p.1, p.2.rows, fits p.0 clock command p.1 p.3))
+
+pub opened_at : (rows held : List (Option ℕ)) (open_row : Option ℕ) (b n : ℕ) (log : Log) → ((log : Log) → BanksFor rows log → open_row ≡ open_at b log) → rows ≡ held → b ≡ n → BanksFor held log → open_row ≡ open_at n log
+opened_at rows held open_row b n log is same own stands = is log (subst (λ (r : List (Option ℕ)). BanksFor r log) (sym same) stands) ∙ ap (λ (i : ℕ). open_at i log) own

@@ -1,0 +1,80 @@
+-- What a legal log keeps.
+use Rattle.std.proofs.Common.{◌≡◌, ℕ, suc, ◌^◌, ◌<◌, ◌≤◌, Bool, true, false, refl, arith, Some, None, List, [], ◌∷◌, length, ltb-true}
+use Rattle.command_words.specs.Command.{bank_number, IsInRange, IsBank}
+use Rattle.command_words.specs.declared.command.Command.{Command}
+use Rattle.command_words.specs.declared.command.Command.TheVariants.{Act}
+use Rattle.command_words.specs.declared.place.Bank.{Bank}
+use Rattle.speed_bin.specs.declared.header.Header.{Header}
+use Rattle.speed_bin.specs.Counters.{acts, counters}
+use Rattle.speed_bin.specs.Counts.{peak}
+use Rattle.speed_bin.specs.Header.{IsAccepted, bound}
+use Rattle.speed_bin.specs.Log.{Log, open_at}
+use Rattle.speed_bin.specs.Marks.{Keeps, BanksInRange}
+use Rattle.speed_bin.specs.Rules.{first_failing, rules_at, rule_1, rule_14}
+use Rattle.speed_bin.proofs.Audits.{AllTrue, peak_bounded}
+use Rattle.speed_bin.proofs.Bounds.{sound_log}
+use Rattle.speed_bin.proofs.Rows.{Sound}
+use Rattle.device_core.specs.Legal.{IsLegal, AllLegal}
+
+all_pass : (n : ℕ) (tests : List Bool) → first_failing n tests ≡ None → AllTrue tests
+all_pass n [] h = tt
+all_pass n (true ∷ tests) h = (refl, all_pass (suc n) tests h)
+all_pass n (false ∷ tests) h = absurd (cc)
+
+-- each of the fourteen tests of a legal command holds
+pub passes : (h : Header) (clock : ℕ) (command : Command) (log : Log) → IsLegal h clock command log → AllTrue (rules_at h clock command log)
+passes h clock command log legal = all_pass 1 (rules_at h clock command log) legal.rules
+
+pub keeps_log : (h : Header) (log : Log) → AllLegal h log → Keeps h log
+keeps_log h [] legal = tt
+keeps_log h (place ∷ log) legal =
+    let k = passes h place.clock place.command log legal.1 in (
+      keeps_log h log legal.0,
+      record {
+        in_range = legal.1.row;
+        first = k.0;
+        second = k.1.0;
+        fourth = k.1.1.1.0;
+        fifth = k.1.1.1.1.0;
+        twelfth = k.1.1.1.1.1.1.1.1.1.1.1.0;
+      },
+    )
+
+low_bank : (command : Command) (bank : Bank) (row : ℕ) → IsInRange command → command ≡ Act bank row → bank_number bank < 32
+low_bank command bank row inside is = go (rw is at inside)
+  where
+    go : IsBank bank × (row < 65536) → bank_number bank < 32
+    go p = let g = p.0.group in let a = p.0.address in omega arith
+
+banks_in_range : (h : Header) (log : Log) → AllLegal h log → BanksInRange log
+banks_in_range h [] legal = tt
+banks_in_range h (place ∷ log) legal = (banks_in_range h log legal.0, λ bank row is. low_bank place.command bank row legal.1.in_range is)
+
+-- a log has fewer places than its next clock
+pub is_short : (h : Header) (clock : ℕ) (log : Log) → AllLegal h log → rule_1 clock log ≡ true → length log ≤ clock
+is_short h clock [] legal rises = omega arith
+is_short h clock (place ∷ log) legal rises =
+    let earlier = is_short h place.clock log legal.0 (passes h place.clock place.command log legal.1).0 in
+    let below : place.clock < clock = ltb-true _ _ rises in
+    omega arith
+
+pub short_log : (h : Header) (clock : ℕ) (command : Command) (log : Log) → AllLegal h log → IsLegal h clock command log → length log < 2 ^ 48
+short_log h clock command log all legal =
+    let few = is_short h clock log all (passes h clock command log legal).0 in
+    let early = legal.in_time in
+    omega arith
+
+pub peak_within : (h : Header) (log : Log) → IsAccepted h → AllLegal h log → peak h log ≤ bound h
+peak_within h log accepted legal = peak_bounded h log accepted (keeps_log h log legal) (banks_in_range h log legal)
+
+-- ---- Activations and counters
+
+pub sound : (h : Header) (b : ℕ) (log : Log) → IsAccepted h → AllLegal h log → b < 32 → Sound h.settings.rows (open_at b log) (counters h b log) (λ row. acts h b row log)
+sound h b log accepted legal low = sound_log h b log low (let r = accepted.settings.rows.0 in omega arith) (keeps_log h log legal)
+
+-- the open row of a bank is one of the header's
+pub open_inside : (h : Header) (b row : ℕ) (log : Log) → IsAccepted h → AllLegal h log → b < 32 → open_at b log ≡ Some row → row < h.settings.rows
+open_inside h b row log accepted legal low is = (sound h b log accepted legal low).inside row is
+
+pub rule_14_holds : (h : Header) (clock : ℕ) (command : Command) (log : Log) → IsLegal h clock command log → rule_14 h command log ≡ true
+rule_14_holds h clock command log legal = (passes h clock command log legal).1.1.1.1.1.1.1.1.1.1.1.1.1.0

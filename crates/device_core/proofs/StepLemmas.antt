@@ -1,0 +1,220 @@
+-- What one command more makes of the stored lines, the scrub's visits and the answers.
+use Rattle.std.proofs.Common.{◌≡◌, ◌∙◌, ℕ, ◌+◌, ◌^◌, ◌<◌, ◌≤◌, Bool, true, false, cond, refl, sym, ap, subst, arith, Option, Some, None, is_some, List, [], ◌∷◌, length, IsTrue, Result, Ok, Err, IsOk}
+use native.Mathlib.Bridge.{le_prop}
+use Rattle.std.proofs.Math.Logic.{∥∥₁_elim, ∥∥₁_map}
+use Rattle.command_words.specs.Command.{bank_number, IsInRange}
+use Rattle.command_words.specs.Geometry.{Shape}
+use Rattle.command_words.specs.Place.{IsInside}
+use Rattle.command_words.specs.declared.place.Bank.{Bank}
+use Rattle.command_words.specs.declared.geometry.Place.{Place}
+use Rattle.command_words.specs.declared.command.Command.{Command}
+use Rattle.command_words.specs.declared.command.Command.TheVariants.{Rd, Wr, Ecs}
+use Rattle.command_words.specs.Words.{Spells}
+use Rattle.command_words.specs.declared.words.Words.{Words}
+use Rattle.command_words.specs.declared.words.WordFault.{WordFault}
+use Rattle.speed_bin.specs.declared.header.Header.{Header}
+use Rattle.speed_bin.specs.Header.{IsAccepted}
+use Rattle.speed_bin.specs.Kinds.{is_rd, is_wr, is_scrub}
+use Rattle.speed_bin.specs.Log.{Issued, Log, open_at, scrubs as scrubs_in}
+use Rattle.error_scrub.specs.Cells.{shape_of, IsUnchanged as CellsUnchanged}
+use Rattle.error_scrub.specs.declared.cells.Cells.{Cells}
+use Rattle.error_scrub.specs.Changes.{Change, scrubs, StandsFor as CellsFor}
+use Rattle.error_scrub.specs.Scrubbing.{Step as Visit, Tally, line_after, StandsFor as ScrubFor}
+use Rattle.std.proofs.lemmas.List.Sums.{count_by-le-length, sum_by-cons}
+use Rattle.device_core.specs.Legal.{IsLegal, AllLegal}
+use Rattle.device_core.specs.Rows.{StandsFor as RowsFor, MayIssue}
+use Rattle.device_core.specs.Steps.{Step, Issues, Flips, log_of}
+use Rattle.device_core.specs.Store.{StandsFor as StoreFor}
+use Rattle.device_core.specs.Stored.{shape, also, answer, change_of, changes_of, visits, words_after}
+use Rattle.device_core.specs.Standing.{Keeps, StandsFor, StandsForSome, IsGiven, AllGiven, IsBit, MayGive, MayStep, MayFlip, IsUnchanged, with_command}
+use Rattle.device_core.specs.declared.activations.Activations.{Activations}
+use Rattle.device_core.specs.declared.device.Device.{Device}
+use Rattle.device_core.specs.declared.store.Store.{Store}
+use Rattle.device_core.proofs.Rules.{passes, short_log, open_inside}
+use Rattle.device_core.proofs.RowLemmas.{low_bank}
+
+-- ---- Equal numbers and shapes by some list
+
+nat_by_some : (a b : ℕ) → ∥ a ≡ b ∥₁ → a ≡ b
+nat_by_some a b same =
+    let up : a ≤ b = ∥∥₁_elim same le_prop (λ e. omega arith) in
+    let down : b ≤ a = ∥∥₁_elim same le_prop (λ e. omega arith) in
+    omega arith
+
+pub shape_by_some : (a b : Shape) → ∥ a ≡ b ∥₁ → a ≡ b
+shape_by_some a b same =
+    let rows = nat_by_some a.rows b.rows (∥∥₁_map same (λ e. ap (λ (s : Shape). s.rows) e)) in
+    let groups = nat_by_some a.groups b.groups (∥∥₁_map same (λ e. ap (λ (s : Shape). s.groups) e)) in
+    ap (λ (r : ℕ). record { rows = r; groups = a.groups }) rows ∙ ap (λ (g : ℕ). record { rows = b.rows; groups = g }) groups
+
+-- ---- The scrub's visits
+
+visits_count : (h : Header) (steps : List Step) → length (visits h steps) ≡ scrubs_in (log_of steps)
+visits_count h [] = refl
+visits_count h (Issues delivered ∷ steps) = go (words_after (changes_of h steps) (line_after (shape h) (scrubs_in (log_of steps)))) (is_scrub delivered.issued.command) (visits_count h steps)
+    ∙ sym (sum_by-cons (λ (place : Issued). cond (is_scrub place.command) 1 0) delivered.issued (log_of steps))
+  where
+    go : (found : Visit) (t : Bool) → length (visits h steps) ≡ scrubs_in (log_of steps) → length (cond t (found ∷ visits h steps) (visits h steps)) ≡ cond t 1 0 + scrubs_in (log_of steps)
+    go found true ih = omega arith
+    go found false ih = omega arith
+visits_count h (Flips place device bit ∷ steps) = visits_count h steps
+
+-- ---- One command more
+
+pub store_at_scrub : (store : Store) (h : Header) (clock : ℕ) (command : Command) (bytes : Option (List ℕ)) (steps : List Step) → command ≡ Ecs
+    → StoreFor store (shape h) (scrubs (line_after (shape h) (length (visits h steps))) ∷ changes_of h steps) (words_after (changes_of h steps) (line_after (shape h) (length (visits h steps))) ∷ visits h steps)
+    → StoreFor store (shape h) (changes_of h (with_command clock command bytes steps)) (visits h (with_command clock command bytes steps))
+store_at_scrub store h clock command bytes steps is s =
+    subst (λ (c : Command). StoreFor store (shape h) (changes_of h (with_command clock c bytes steps)) (visits h (with_command clock c bytes steps))) (sym is)
+    (subst (λ (n : ℕ). StoreFor store (shape h) (scrubs (line_after (shape h) n) ∷ changes_of h steps) (words_after (changes_of h steps) (line_after (shape h) n) ∷ visits h steps)) (visits_count h steps) s)
+
+pub store_at_write : (store : Store) (h : Header) (clock : ℕ) (command : Command) (bank : Bank) (column : ℕ) (bytes : Option (List ℕ)) (steps : List Step) → command ≡ Wr bank column
+    → StoreFor store (shape h) (also (change_of h (Wr bank column) bytes (log_of steps)) (changes_of h steps)) (visits h steps)
+    → StoreFor store (shape h) (changes_of h (with_command clock command bytes steps)) (visits h (with_command clock command bytes steps))
+store_at_write store h clock command bank column bytes steps is s =
+    subst (λ (c : Command). StoreFor store (shape h) (changes_of h (with_command clock c bytes steps)) (visits h (with_command clock c bytes steps))) (sym is) s
+
+-- a command that neither writes nor scrubs leaves the stored lines
+pub store_else : (store : Store) (h : Header) (clock : ℕ) (command : Command) (bytes : Option (List ℕ)) (steps : List Step) → is_wr command ≡ false → is_scrub command ≡ false
+    → StoreFor store (shape h) (changes_of h steps) (visits h steps)
+    → StoreFor store (shape h) (changes_of h (with_command clock command bytes steps)) (visits h (with_command clock command bytes steps))
+store_else store h clock command bytes steps = go command
+  where
+    go : (c : Command) → is_wr c ≡ false → is_scrub c ≡ false → StoreFor store (shape h) (changes_of h steps) (visits h steps) → StoreFor store (shape h) (changes_of h (with_command clock c bytes steps)) (visits h (with_command clock c bytes steps))
+    go (Wr bank column) w e s = absurd (cc)
+    go Ecs w e s = absurd (cc)
+    go _ w e s = s
+
+pub no_answer : (h : Header) (command : Command) (steps : List Step) → is_rd command ≡ false → None ≡ answer h command steps
+no_answer h (Rd bank column) steps e = absurd (cc)
+no_answer h _ steps e = refl
+
+-- ---- What a legal command says of its bank
+
+pub open_at_rd : (h : Header) (clock : ℕ) (command : Command) (bank : Bank) (column : ℕ) (log : Log) → command ≡ Rd bank column → IsLegal h clock command log → IsTrue (is_some (open_at (bank_number bank) log))
+open_at_rd h clock command bank column log is legal = subst (λ (c : Command). IsLegal h clock c log → IsTrue (is_some (open_at (bank_number bank) log))) (sym is) (λ l. (passes h clock (Rd bank column) log l).1.1.1.0) legal
+
+pub open_at_wr : (h : Header) (clock : ℕ) (command : Command) (bank : Bank) (column : ℕ) (log : Log) → command ≡ Wr bank column → IsLegal h clock command log → IsTrue (is_some (open_at (bank_number bank) log))
+open_at_wr h clock command bank column log is legal = subst (λ (c : Command). IsLegal h clock c log → IsTrue (is_some (open_at (bank_number bank) log))) (sym is) (λ l. (passes h clock (Wr bank column) log l).1.1.1.0) legal
+
+pub bank_of_rd : (device : Device) (clock : ℕ) (command : Command) (bank : Bank) (column : ℕ) (bytes : Option (List ℕ)) → command ≡ Rd bank column → MayGive device clock command bytes → bank_number bank < 32
+bank_of_rd device clock command bank column bytes is may = ∥∥₁_elim may le_prop (λ p. go (subst IsInRange is p.3.legal.in_range))
+  where
+    go : IsInRange (Rd bank column) → bank_number bank < 32
+    go r = low_bank bank r.0
+
+pub bank_of_wr : (device : Device) (clock : ℕ) (command : Command) (bank : Bank) (column : ℕ) (bytes : Option (List ℕ)) → command ≡ Wr bank column → MayGive device clock command bytes → bank_number bank < 32
+bank_of_wr device clock command bank column bytes is may = ∥∥₁_elim may le_prop (λ p. go (subst IsInRange is p.3.legal.in_range))
+  where
+    go : IsInRange (Wr bank column) → bank_number bank < 32
+    go r = low_bank bank r.0
+
+pub some_list : (device : Device) (clock : ℕ) (command : Command) (bytes : Option (List ℕ)) → MayGive device clock command bytes → StandsForSome device
+some_list device clock command bytes may = ∥∥₁_map may (λ p. (p.0, p.1, p.2))
+
+-- ---- What the conditions of the parts need
+
+pub scrub_shape : (device : Device) → StandsForSome device → device.store.scrub.shape ≡ shape_of device.store.cells
+unfolding StandsFor StoreFor
+scrub_shape device may = shape_by_some _ _ (∥∥₁_map may (λ p. go p.0 p.1 p.2))
+  where
+    go : (h : Header) (steps : List Step) → Keeps device h steps → device.store.scrub.shape ≡ shape_of device.store.cells
+    go h steps s = s.store.scrub_shape ∙ sym s.store.shape
+
+pub few_steps : (device : Device) (clock : ℕ) (command : Command) (bytes : Option (List ℕ)) → MayGive device clock command bytes → device.store.scrub.steps < 2 ^ 48
+unfolding StandsFor StoreFor RowsFor
+few_steps device clock command bytes may = ∥∥₁_elim may le_prop (λ p. go p.0 p.1 p.2 p.3)
+  where
+    go : (h : Header) (steps : List Step) → Keeps device h steps → IsGiven h clock command bytes steps → device.store.scrub.steps < 2 ^ 48
+    go h steps s given =
+        let made = s.store.steps in
+        let counted = visits_count h steps in
+        let few = count_by-le-length (λ (place : Issued). is_scrub place.command) (log_of steps) in
+        let short = short_log h clock command (log_of steps) s.activations.legal given.legal in
+        omega arith
+
+-- the open row of a bank is inside the device's shape
+pub row_inside : (device : Device) (bank : Bank) (column row : ℕ) → bank_number bank < 32 → StandsForSome device → ((h : Header) (steps : List Step) → StandsFor device h steps → Some row ≡ open_at (bank_number bank) (log_of steps)) → IsInside (record { bank = bank; row = row; column = column }) (shape_of device.store.cells)
+unfolding StandsFor StoreFor RowsFor
+row_inside device bank column row low may is = record {
+  row = ∥∥₁_elim may le_prop (λ p. (go p.0 p.1 p.2).row);
+  group = ∥∥₁_elim may le_prop (λ p. (go p.0 p.1 p.2).group);
+}
+  where
+    go : (h : Header) (steps : List Step) → Keeps device h steps → IsInside (record { bank = bank; row = row; column = column }) (shape_of device.store.cells)
+    go h steps s = subst (IsInside (record { bank = bank; row = row; column = column })) (sym s.store.shape) (record {
+      row = open_inside h (bank_number bank) row (log_of steps) s.activations.accepted s.activations.legal low (sym (is h steps s));
+      group = omega arith;
+    })
+
+-- ---- A turned bit
+
+flips_inside : (device : Device) (h : Header) (steps : List Step) (place : Place) (at bit : ℕ) → StandsFor device h steps → IsBit h place at bit → IsInside place (shape_of device.store.cells)
+unfolding StandsFor StoreFor
+flips_inside device h steps place at bit s can = subst (IsInside place) (sym s.store.shape) can.inside
+
+pub flip_inside : (device : Device) (place : Place) (at bit : ℕ) → MayFlip device place at bit → IsInside place (shape_of device.store.cells)
+flip_inside device place at bit may = record {
+  row = ∥∥₁_elim may le_prop (λ p. (flips_inside device p.0 p.1 place at bit p.2 p.3).row);
+  group = ∥∥₁_elim may le_prop (λ p. (flips_inside device p.0 p.1 place at bit p.2 p.3).group);
+}
+
+pub flip_device : (device : Device) (place : Place) (at bit : ℕ) → MayFlip device place at bit → at < 4
+flip_device device place at bit may = ∥∥₁_elim may le_prop (λ p. p.3.of_four)
+
+pub flip_bit : (device : Device) (place : Place) (at bit : ℕ) → MayFlip device place at bit → bit < 136
+flip_bit device place at bit may = ∥∥₁_elim may le_prop (λ p. p.3.in_word)
+
+-- ---- Words
+
+-- what words spell is the command that they decode to
+pub decodes : (r : Result Command WordFault) (device : Device) (clock : ℕ) (words : Words) (bytes : Option (List ℕ)) → ((command : Command) → IsInRange command → Spells command words → r ≡ Ok command) → MayStep device clock words bytes → IsOk r
+decodes (Ok command) device clock words bytes only may = refl
+decodes (Err fault) device clock words bytes only may =
+    let no : 1 ≤ 0 = ∥∥₁_elim may le_prop (λ p. let e = only p.2 p.4.given.legal.in_range p.4.spelled in absurd (cc)) in
+    absurd (omega arith)
+
+pub named : (r : Result Command WordFault) (command other : Command) (words : Words) → ((command : Command) → IsInRange command → Spells command words → r ≡ Ok command) → r ≡ Ok other → IsInRange command → Spells command words → command ≡ other
+named r command other words only is inside spelled = let e = only command inside spelled in cc
+
+pub may_give : (r : Result Command WordFault) (device : Device) (clock : ℕ) (other : Command) (words : Words) (bytes : Option (List ℕ)) → ((command : Command) → IsInRange command → Spells command words → r ≡ Ok command) → r ≡ Ok other → MayStep device clock words bytes → MayGive device clock other bytes
+may_give r device clock other words bytes only is may = ∥∥₁_map may (λ p. (p.0, p.1, p.3, subst (λ (c : Command). IsGiven p.0 clock c bytes p.1) (named r p.2 other words only is p.4.given.legal.in_range p.4.spelled) p.4.given))
+
+-- the rest of the device is asked for its part of the condition
+pub may_issue : (device : Device) (clock : ℕ) (command : Command) (bytes : Option (List ℕ)) → MayGive device clock command bytes → MayIssue device.activations clock command
+unfolding StandsFor
+may_issue device clock command bytes may = ∥∥₁_map may (λ p. (p.0, log_of p.1, p.2.activations, p.3.legal))
+
+-- ---- The same device
+
+abbrev pub UnchangedLaw : Type 0
+UnchangedLaw = (old new : Cells) (log : List Change) → CellsUnchanged old new → CellsFor old log → CellsFor new log
+
+pub still_stands : (law : UnchangedLaw) (old new : Device) (h : Header) (steps : List Step) → IsUnchanged old new → StandsFor old h steps → StandsFor new h steps
+unfolding StandsFor StoreFor IsUnchanged
+still_stands law old new h steps u s = record {
+  given = s.given;
+  registers = u.registers ∙ s.registers;
+  activations = subst (λ (a : Activations). RowsFor a h (log_of steps)) (sym u.activations) s.activations;
+  store = record {
+    shape = u.store.cells.shape ∙ s.store.shape;
+    scrub_shape = ap (λ (t : Tally). t.shape) u.store.scrub ∙ s.store.scrub_shape;
+    cells = law _ _ _ u.store.cells s.store.cells;
+    scrub = subst (λ (t : Tally). ScrubFor t (visits h steps)) (sym u.store.scrub) s.store.scrub;
+    steps = ap (λ (t : Tally). t.steps) u.store.scrub ∙ s.store.steps;
+  };
+}
+
+-- ---- What the list of a device says of itself
+
+pub list_accepted : (device : Device) (h : Header) (steps : List Step) → StandsFor device h steps → IsAccepted h
+unfolding StandsFor RowsFor
+list_accepted device h steps s = s.activations.accepted
+
+pub list_legal : (device : Device) (h : Header) (steps : List Step) → StandsFor device h steps → AllLegal h (log_of steps)
+unfolding StandsFor RowsFor
+list_legal device h steps s = s.activations.legal
+
+pub list_given : (device : Device) (h : Header) (steps : List Step) → StandsFor device h steps → AllGiven h steps
+unfolding StandsFor
+list_given device h steps s = s.given

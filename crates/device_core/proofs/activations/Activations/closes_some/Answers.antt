@@ -1,0 +1,17 @@
+use Rattle.std.proofs.Common.{sym, arith}
+use Rattle.speed_bin.specs.Alert.{closes}
+use Rattle.speed_bin.specs.Kinds.{effect}
+use Rattle.speed_bin.specs.Log.{open_at}
+use Rattle.speed_bin.proofs.Tests.{any_below_at}
+use Rattle.device_core.proofs.Below.{none_below}
+use Rattle.device_core.proofs.activations.Activations.closes_some.Goals as goal
+
+pub returns-then-closes : goal.returns-then-closes
+returns-then-closes c = λ h log stands.
+    let here = rw c.bank_of.ensures at (sym (c.if-closes.ensures h log stands)) in
+    sym (any_below_at 32 (λ b. closes (effect b c.args.command.now) (open_at b log)) c.loop-number.number c.loop-number-test.true here)
+
+pub returns : goal.returns
+returns c = λ h log stands.
+    let end = c.loop-number-test.false in
+    sym (none_below 32 (λ b. closes (effect b c.args.command.now) (open_at b log)) (λ b low. c.loop-number.invariant h log stands b (omega arith)))

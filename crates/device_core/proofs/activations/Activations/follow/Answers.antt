@@ -1,0 +1,52 @@
+use Rattle.std.proofs.Common.{◌∙◌, ◌∷◌, ◌<◌, ℕ, length, length-set, refl, sym, ap, subst, arith}
+use Rattle.command_words.specs.Command.{bank_number}
+use Rattle.speed_bin.specs.Kinds.{effect}
+use Rattle.device_core.specs.Rows.{StandsFor, MayTouch, BankFor, touch_of}
+use Rattle.device_core.specs.declared.bank_rows.BankRows.{BankRows}
+use Rattle.device_core.proofs.RowLemmas.{all_banks, may_touch, opened_at}
+use Rattle.device_core.proofs.BankLemmas.{element, one_further, set_elsewhere}
+use Rattle.device_core.proofs.activations.Activations.follow.Goals as goal
+
+pub loop-number-init : goal.loop-number-init
+loop-number-init c = record {
+  rows = refl;
+  alert = refl;
+  peak = refl;
+  long = all_banks c.args.self.now c.args.clock c.args.command.now c.requires;
+  done = λ h log stands legal same b low. absurd (omega arith);
+  left = λ b low. refl;
+}
+
+pub follow-requires : goal.follow-requires
+unfolding StandsFor
+follow-requires c =
+    let long = c.loop-number.invariant.long in
+    let test = c.loop-number-test.true in
+    let read = element c.loop-number.self.banks.items c.args.self.now.banks.items c.index_mut.result.now c.from.result c.loop-number.number c.from.ensures (omega arith) c.index_mut.ensures.value
+    (c.loop-number.invariant.left c.loop-number.number (omega arith)) in
+    subst (λ (x : BankRows). MayTouch c.of-touch.result c.open_row-open_row.result x.counts) (sym read)
+    (may_touch c.bound.ensures.bounded c.may_change.ensures.close c.may_change.ensures.mitigate (record { close = c.holds_by_some_log.ensures.close; mitigate = c.holds_by_some_log.ensures.mitigate })
+    c.args.self.now c.args.clock c.args.command.now c.loop-number.number c.of-touch.result c.open_row-open_row.result test c.requires
+    (λ h log stands. opened_at c.loop-number.self.rows c.args.self.now.rows c.open_row-open_row.result (bank_number c.bank_of-bank.result) c.loop-number.number log c.open_row-open_row.ensures c.loop-number.invariant.rows c.bank_of-bank.ensures stands.rows))
+
+pub loop-number-preserved : goal.loop-number-preserved
+unfolding StandsFor
+loop-number-preserved c =
+    let long = c.loop-number.invariant.long in
+    let test = c.loop-number-test.true in
+    let inside : c.loop-number.number < length c.loop-number.self.banks.items = omega arith in
+    let read = element c.loop-number.self.banks.items c.args.self.now.banks.items c.index_mut.result.now c.from.result c.loop-number.number c.from.ensures inside c.index_mut.ensures.value
+    (c.loop-number.invariant.left c.loop-number.number (omega arith)) in
+    record {
+      rows = c.loop-number.invariant.rows;
+      alert = c.loop-number.invariant.alert;
+      peak = c.loop-number.invariant.peak;
+      long = length-set _ _ _ ∙ long;
+      done = λ h log stands legal same b low. rw c.from.ensures (one_further c.loop-number.self.banks.items c.loop-number.number b c.follow.new.self h (record { clock = c.args.clock; command = c.args.command.now } ∷ log) inside
+          (c.loop-number.invariant.done h log stands legal same)
+          (c.follow.ensures h c.loop-number.number c.args.clock c.args.command.now log
+          (subst (λ (x : BankRows). BankFor x h c.loop-number.number log) (sym read) (stands.counts c.loop-number.number test)) same
+          (c.of-touch.ensures ∙ ap (λ (n : ℕ). touch_of (effect n c.args.command.now)) c.bank_of-bank.ensures)
+          (opened_at c.loop-number.self.rows c.args.self.now.rows c.open_row-open_row.result (bank_number c.bank_of-bank.result) c.loop-number.number log c.open_row-open_row.ensures c.loop-number.invariant.rows c.bank_of-bank.ensures stands.rows)) low);
+      left = λ b high. rw c.from.ensures (set_elsewhere c.loop-number.self.banks.items c.loop-number.number b c.follow.new.self (λ e. absurd (omega (arith, e, high))) ∙ c.loop-number.invariant.left b (omega (arith, high)));
+    }

@@ -1,0 +1,37 @@
+use Rattle.std.proofs.Common.{◌≡◌, ◌∙◌, ◌++◌, ◌∷◌, [], List, length, length-append, refl, sym, ap, subst, arith}
+use Rattle.speed_bin.specs.Header.{spare}
+use Rattle.device_core.specs.Rows.{StandsFor, BankFor, bank_at}
+use Rattle.device_core.specs.declared.bank_rows.BankRows.{BankRows}
+use Rattle.device_core.proofs.BankLemmas.{pushed, fitted}
+use Rattle.device_core.proofs.activations.Activations.new.Goals as goal
+
+pub new-requires-clause-thresholds : goal.new-requires-clause-thresholds
+unfolding spare
+new-requires-clause-thresholds c = c.requires.checks.thresholds
+
+pub loop-preserved : goal.loop-preserved
+loop-preserved c =
+    let items : c.push.new.self.items ≡ c.loop.banks.items ++ c.in_ok-rows.rows ∷ [] = c.push.ensures.items ∙ fitted c.push.result _ _ c.if-is_err.ensures.value in
+    let long = c.loop.invariant.long in
+    let appended = length-append c.loop.banks.items (c.in_ok-rows.rows ∷ []) in
+    record {
+      long = ap (λ (xs : List BankRows). length xs) items ∙ (omega (arith, long, appended));
+      fresh = λ b low. subst (λ (xs : List BankRows). BankFor (bank_at xs b) c.args.header.now b []) (sym items)
+          (pushed c.loop.banks.items c.in_ok-rows.rows c.args.header.now c.loop.counter long c.loop.invariant.fresh (c.in_ok-rows.ensures c.args.header.now c.loop.counter refl) b low);
+    }
+
+pub returns : goal.returns
+unfolding StandsFor
+returns c =
+    let end = c.loop-test.false in
+    let last = c.loop.auto.counter-end in
+    let long = c.loop.invariant.long in
+    record {
+      accepted = c.requires;
+      legal = tt;
+      rows = c.new-2.ensures;
+      banks = omega (arith, end, last, long);
+      counts = λ b low. c.loop.invariant.fresh b (omega (arith, end, low));
+      alert = c.new-3.ensures.log c.args.header.now;
+      peak = refl;
+    }

@@ -1,0 +1,13 @@
+//! The memory end of the bus: a device that takes command words and answers each read, and whether ALERT is raised.
+#![tactic(auto)]
+
+mod activations;
+mod bank_rows;
+mod device;
+mod reply;
+mod store;
+#[cfg(test)]
+mod tests;
+
+pub use device::Device;
+pub use reply::Reply;
