@@ -2,7 +2,9 @@
 ghost use Rattle.std.specs.Prelude.{ℕ, ◌≡◌, ◌≢◌, ◌↔◌, List, Option, Some, None};
 ghost use Rattle.ddr_io.specs.Faults.{Rose};
 ghost use Rattle.ddr_text.specs.declared.lines.TraceLine.{TraceLine};
-ghost use Rattle.trace_replay.specs.Replay.{Answers, IsJobOf};
+ghost use Rattle.speed_bin.specs.declared.header.Header.{Header};
+ghost use Rattle.trace_replay.specs.Job.{IsJobOf};
+ghost use Rattle.trace_replay.specs.Replay.{Answers};
 ghost use Rattle.ddr_cli.specs.Words.{IsReplay};
 
 use ddr_io::{Sink, Source, Status};
@@ -25,8 +27,8 @@ pub fn run<S: Source, K: Sink>(
     ensures replayed { IsReplay words.now → Answers result (S.left source.old) (S.left source.new) (K.written sink.old) (K.written sink.new) }
 
     // A job with nothing to refuse is not refused.
-    ensures complete { (bytes : List ℕ) (left : Option (List ℕ)) (trace : List TraceLine) → IsReplay words.now → S.left source.old ≡ Some bytes
-        → IsJobOf (Some bytes) left trace None → result ≢ Status.Refused }
+    ensures complete { (bytes : List ℕ) (left : Option (List ℕ)) (h : Header) (text : List ℕ) (trace : List TraceLine) → IsReplay words.now
+        → S.left source.old ≡ Some bytes → IsJobOf (Some bytes) left h text trace None → result ≢ Status.Refused }
 
     // A fault is told where it was counted.
     ensures read { result ≡ Status.ReadFault → Rose (S.faults source.old) (S.faults source.new) }

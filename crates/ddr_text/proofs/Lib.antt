@@ -24,3 +24,5 @@ pub mod Bits
 pub mod Grows
 pub mod Idles
 pub mod Numbering
+mod OpeningLines
+mod CheckNumbers

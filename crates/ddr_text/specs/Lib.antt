@@ -13,3 +13,5 @@ pub mod Sound
 pub mod Barriers
 pub mod Numbering
 pub mod Ranges
+pub mod Opening
+pub mod Front

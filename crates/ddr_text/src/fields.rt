@@ -103,9 +103,12 @@ pub(crate) fn command_fields(
     Ok((clock, first, second))
 }
 
-/// The number that a field spells.
+/// The number that a field spells: decimal digits, without a leading zero but in `0` itself, at most 2^64 - 1.
+///
+/// # Errors
+/// `LineFault::Number` for every other field.
 #[tactic(auto, unfolding(crate::specs::Grammar::number_of))]
-pub(crate) fn number_of(field: &[u8]) -> Result<u64, LineFault>
+pub fn number_of(field: &[u8]) -> Result<u64, LineFault>
     ensures { result ≡ number_of field.now }
 {
     match field {

@@ -3,8 +3,12 @@
 
 mod digits;
 mod fields;
+mod header_text;
 pub mod laws;
 mod lines;
+mod opening;
+#[cfg(test)]
+mod opening_tests;
 mod report_line;
 #[cfg(test)]
 mod report_line_tests;
@@ -15,7 +19,10 @@ mod trace_line;
 #[cfg(test)]
 mod trace_line_tests;
 
+pub use fields::number_of;
+pub use header_text::HeaderText;
 pub use lines::{LineFault, ReportLine, StatName, TraceLine};
+pub use opening::{Opening, open_job};
 pub use report_line::{read_report_line, report_lines};
 pub use spelling::write_report_line;
 pub use trace_line::{read_trace_line, trace_grammar};

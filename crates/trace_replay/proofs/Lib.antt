@@ -1,3 +1,4 @@
+pub mod Agreeing
 pub mod Gaps
 pub mod Issuing
 pub mod Rows
@@ -6,8 +7,6 @@ pub mod Work
 pub mod Offers
 pub mod Requests
 pub mod Steps
-pub mod Openings
-pub mod ServedHeader
-pub mod Traces
 pub mod Pieces
 pub mod Reported
+mod TraceParts

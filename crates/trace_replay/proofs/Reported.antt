@@ -1,6 +1,5 @@
 -- The bytes of a report, piece by piece.
-use Rattle.std.proofs.Common.{◌≡◌, ◌∙◌, ℕ, inl, inr, Option, Some, None, List, [], ◌∷◌, ◌++◌, refl, sym, ap, subst, append-nil, append_assoc, IsSome}
-use Rattle.std.proofs.lemmas.List.{append_cancel_left}
+use Rattle.std.proofs.Common.{◌≡◌, ◌∙◌, ℕ, inl, inr, Option, Some, None, List, [], ◌∷◌, ◌++◌, ◌+◌, length, refl, sym, ap, subst, append-nil, append_assoc, IsSome}
 use Rattle.std.specs.List.{flat_map}
 use Rattle.std.specs.Io.KnownBytes.{Appends}
 use Rattle.std.proofs.KnownBytes.{Appends-trans, Keeps-refl}
@@ -12,90 +11,87 @@ use Rattle.ddr_text.specs.Report.{report}
 use Rattle.ddr_text.specs.Runs.{Run}
 use Rattle.ddr_text.specs.Sound.{whole, opening as opening_of}
 use Rattle.ddr_text.specs.Spelling.{spelled}
-use Rattle.trace_replay.specs.Job.{opening, job_shape, IsTraceOf}
-use Rattle.trace_replay.specs.Reading.{IsJob}
-use Rattle.trace_replay.specs.Replay.{header_text, not_built, refusal_of, Reports, BeginsReport, IsJobOf, Answers, JobAnswers, OpeningAnswers, StopAnswers, ReadAnswers}
+use Rattle.ddr_text.specs.Opening.{Accepts, Refuses}
+use Rattle.ddr_text.specs.Sound.{shape_of}
+use Rattle.speed_bin.specs.declared.header.Header.{Header}
+use Rattle.trace_replay.specs.Job.{trace_of, IsJobOf}
+use Rattle.trace_replay.specs.Reading.{IsReading}
+use Rattle.trace_replay.specs.declared.job.Reading.{Reading}
+use Rattle.trace_replay.specs.declared.job.Reading.TheVariants.{Accepted, Refused}
+use Rattle.trace_replay.specs.Replay.{refusal_of, Reports, BeginsReport, Answers, JobAnswers, OpeningAnswers, StopAnswers, ReadAnswers}
 use Rattle.trace_replay.specs.Stop.{ReadCause, status_of}
 use Rattle.ddr_io.specs.Faults.{Rose}
 use Rattle.trace_replay.specs.declared.stop.Stop.{Stop}
 use Rattle.trace_replay.specs.declared.stop.Stop.TheVariants.{ReadFault, WriteFault, OutOfMemory}
 use Rattle.trace_replay.specs.Writing.{Serves, BeginsToServe, served_lines}
-use Rattle.trace_replay.specs.declared.format.TheConstants.{OPENING}
-use Rattle.trace_replay.specs.declared.job.Job.{Job}
 use Rattle.ddr_io.specs.declared.status.Status.{Status}
 use Rattle.ddr_io.specs.declared.status.Status.TheVariants as status
 use Rattle.trace_replay.proofs.Pieces.{prefix-behind, prefix-longer}
-use Rattle.trace_replay.proofs.Traces.{determined}
-
-pub opened : OPENING.now ≡ opening_of header_text
-opened = refl
 
 -- ---- The whole report
 
-unrefused : (trace : List TraceLine) (a b c : Option (List ℕ)) → Appends a b OPENING.now → Serves trace b c → Reports trace None a c
-unrefused trace a b c first (run, clock, is, h) = (
-  opening_of header_text ++ flat_map spelled (served_lines trace run clock),
+unrefused : (header : Header) (text : List ℕ) (trace : List TraceLine) (a b c : Option (List ℕ)) → Appends a b (opening_of text) → Serves header trace b c → Reports header text trace None a c
+unrefused header text trace a b c first (run, clock, is, h) = (
+  opening_of text ++ flat_map spelled (served_lines trace run clock),
   (run, clock, is, refl),
-  Appends-trans a b c (opening_of header_text) (flat_map spelled (served_lines trace run clock)) first h,
+  Appends-trans a b c (opening_of text) (flat_map spelled (served_lines trace run clock)) first h,
 )
 
-with_refusal : (trace : List TraceLine) (run : Run) (clock number : ℕ) → flat_map spelled (whole trace run clock (refusal_of (Some number))) ≡ flat_map spelled (served_lines trace run clock) ++ spelled (RefusedLine number not_built)
-with_refusal trace run clock number =
-    ap (flat_map spelled) (sym (append_assoc (report trace run) (EndLine clock ∷ []) (RefusedLine number not_built ∷ [])))
-    ∙ flat_map-append spelled (served_lines trace run clock) (RefusedLine number not_built ∷ [])
-    ∙ ap (λ l. flat_map spelled (served_lines trace run clock) ++ l) (append-nil (spelled (RefusedLine number not_built)))
+with_refusal : (header : Header) (text : List ℕ) (trace : List TraceLine) (run : Run) (clock reason : ℕ) → flat_map spelled (whole trace run clock (refusal_of trace (Some reason))) ≡ flat_map spelled (served_lines trace run clock) ++ spelled (RefusedLine (length trace + 1) reason)
+with_refusal header text trace run clock reason =
+    ap (flat_map spelled) (sym (append_assoc (report trace run) (EndLine clock ∷ []) (RefusedLine (length trace + 1) reason ∷ [])))
+    ∙ flat_map-append spelled (served_lines trace run clock) (RefusedLine (length trace + 1) reason ∷ [])
+    ∙ ap (λ l. flat_map spelled (served_lines trace run clock) ++ l) (append-nil (spelled (RefusedLine (length trace + 1) reason)))
 
-refused_bytes : (trace : List TraceLine) (run : Run) (clock number : ℕ) → opening_of header_text ++ flat_map spelled (whole trace run clock (refusal_of (Some number))) ≡ (opening_of header_text ++ flat_map spelled (served_lines trace run clock)) ++ spelled (RefusedLine number not_built)
-refused_bytes trace run clock number =
-    ap (λ l. opening_of header_text ++ l) (with_refusal trace run clock number)
-    ∙ sym (append_assoc (opening_of header_text) (flat_map spelled (served_lines trace run clock)) (spelled (RefusedLine number not_built)))
+refused_bytes : (header : Header) (text : List ℕ) (trace : List TraceLine) (run : Run) (clock reason : ℕ) → opening_of text ++ flat_map spelled (whole trace run clock (refusal_of trace (Some reason))) ≡ (opening_of text ++ flat_map spelled (served_lines trace run clock)) ++ spelled (RefusedLine (length trace + 1) reason)
+refused_bytes header text trace run clock reason =
+    ap (λ l. opening_of text ++ l) (with_refusal header text trace run clock reason)
+    ∙ sym (append_assoc (opening_of text) (flat_map spelled (served_lines trace run clock)) (spelled (RefusedLine (length trace + 1) reason)))
 
-pub reports-unrefused : (trace : List TraceLine) (refused : Option ℕ) (a b c : Option (List ℕ)) → refused ≡ None → Appends a b OPENING.now → Serves trace b c → Reports trace refused a c
-reports-unrefused trace refused a b c none first h = subst (λ o. Reports trace o a c) (sym none) (unrefused trace a b c first h)
+pub reports-unrefused : (header : Header) (text : List ℕ) (trace : List TraceLine) (refused : Option ℕ) (a b c : Option (List ℕ)) → refused ≡ None → Appends a b (opening_of text) → Serves header trace b c → Reports header text trace refused a c
+reports-unrefused header text trace refused a b c none first h = subst (λ o. Reports header text trace o a c) (sym none) (unrefused header text trace a b c first h)
 
-pub reports-refused : (trace : List TraceLine) (refused : Option ℕ) (number : ℕ) (a b c d : Option (List ℕ)) → refused ≡ Some number → Appends a b OPENING.now → Serves trace b c → Appends c d (spelled (RefusedLine number not_built)) → Reports trace refused a d
-reports-refused trace refused number a b c d is first (run, clock, ran, h) last = subst (λ o. Reports trace o a d) (sym is) (
-  opening_of header_text ++ flat_map spelled (whole trace run clock (refusal_of (Some number))),
+pub reports-refused : (header : Header) (text : List ℕ) (trace : List TraceLine) (refused : Option ℕ) (reason number : ℕ) (a b c d : Option (List ℕ)) → refused ≡ Some reason → number ≡ length trace + 1 → Appends a b (opening_of text) → Serves header trace b c → Appends c d (spelled (RefusedLine number reason)) → Reports header text trace refused a d
+reports-refused header text trace refused reason number a b c d is numbered first (run, clock, ran, h) last = subst (λ o. Reports header text trace o a d) (sym is) (
+  opening_of text ++ flat_map spelled (whole trace run clock (refusal_of trace (Some reason))),
   (run, clock, ran, refl),
-  subst (Appends a d) (sym (refused_bytes trace run clock number)) (Appends-trans a c d (opening_of header_text ++ flat_map spelled (served_lines trace run clock)) (spelled (RefusedLine number not_built)) (Appends-trans a b c (opening_of header_text) (flat_map spelled (served_lines trace run clock)) first h) last),
+  subst (Appends a d) (sym (refused_bytes header text trace run clock reason)) (Appends-trans a c d (opening_of text ++ flat_map spelled (served_lines trace run clock)) (spelled (RefusedLine (length trace + 1) reason)) (Appends-trans a b c (opening_of text) (flat_map spelled (served_lines trace run clock)) first h) (subst (λ n. Appends c d (spelled (RefusedLine n reason))) numbered last)),
 )
 
 -- ---- A part of it
 
-pub begins-opening : (trace : List TraceLine) (refused : Option ℕ) (a b : Option (List ℕ)) → AppendsPrefix a b OPENING.now → BeginsReport trace refused a b
-begins-opening trace refused a b cut = inl ([], tt, prefix-longer a b (opening_of header_text) [] cut)
+pub begins-opening : (header : Header) (text : List ℕ) (trace : List TraceLine) (refused : Option ℕ) (a b : Option (List ℕ)) → AppendsPrefix a b (opening_of text) → BeginsReport header text trace refused a b
+begins-opening header text trace refused a b cut = inl ([], tt, prefix-longer a b (opening_of text) [] cut)
 
-longer_by : (trace : List TraceLine) (run : Run) (clock : ℕ) (refused : Option ℕ) (a b : Option (List ℕ)) → AppendsPrefix a b (opening_of header_text ++ flat_map spelled (served_lines trace run clock)) → AppendsPrefix a b (opening_of header_text ++ flat_map spelled (whole trace run clock (refusal_of refused)))
-longer_by trace run clock None a b cut = cut
-longer_by trace run clock (Some number) a b cut =
-    subst (AppendsPrefix a b) (sym (refused_bytes trace run clock number)) (prefix-longer a b (opening_of header_text ++ flat_map spelled (served_lines trace run clock)) (spelled (RefusedLine number not_built)) cut)
+longer_by : (header : Header) (text : List ℕ) (trace : List TraceLine) (run : Run) (clock : ℕ) (refused : Option ℕ) (a b : Option (List ℕ)) → AppendsPrefix a b (opening_of text ++ flat_map spelled (served_lines trace run clock)) → AppendsPrefix a b (opening_of text ++ flat_map spelled (whole trace run clock (refusal_of trace refused)))
+longer_by header text trace run clock None a b cut = cut
+longer_by header text trace run clock (Some reason) a b cut =
+    subst (AppendsPrefix a b) (sym (refused_bytes header text trace run clock reason)) (prefix-longer a b (opening_of text ++ flat_map spelled (served_lines trace run clock)) (spelled (RefusedLine (length trace + 1) reason)) cut)
 
-pub begins-serving : (trace : List TraceLine) (refused : Option ℕ) (a b c : Option (List ℕ)) → Appends a b OPENING.now → BeginsToServe trace b c → BeginsReport trace refused a c
-begins-serving trace refused a b c first (inl (run, sound, cut)) = inl (run, sound, prefix-behind a b c (opening_of header_text) (flat_map spelled (report trace run)) first cut)
-begins-serving trace refused a b c first (inr (run, clock, is, cut)) = inr (
-  opening_of header_text ++ flat_map spelled (whole trace run clock (refusal_of refused)),
+pub begins-serving : (header : Header) (text : List ℕ) (trace : List TraceLine) (refused : Option ℕ) (a b c : Option (List ℕ)) → Appends a b (opening_of text) → BeginsToServe header trace b c → BeginsReport header text trace refused a c
+begins-serving header text trace refused a b c first (inl (run, sound, cut)) = inl (run, sound, prefix-behind a b c (opening_of text) (flat_map spelled (report trace run)) first cut)
+begins-serving header text trace refused a b c first (inr (run, clock, is, cut)) = inr (
+  opening_of text ++ flat_map spelled (whole trace run clock (refusal_of trace refused)),
   (run, clock, is, refl),
-  longer_by trace run clock refused a c (prefix-behind a b c (opening_of header_text) (flat_map spelled (served_lines trace run clock)) first cut),
+  longer_by header text trace run clock refused a c (prefix-behind a b c (opening_of text) (flat_map spelled (served_lines trace run clock)) first cut),
 )
 
-pub begins-refused : (trace : List TraceLine) (refused : Option ℕ) (number : ℕ) (a b c d : Option (List ℕ)) → refused ≡ Some number → Appends a b OPENING.now → Serves trace b c → AppendsPrefix c d (spelled (RefusedLine number not_built)) → BeginsReport trace refused a d
-begins-refused trace refused number a b c d is first (run, clock, ran, h) cut = subst (λ o. BeginsReport trace o a d) (sym is) (inr (
-  opening_of header_text ++ flat_map spelled (whole trace run clock (refusal_of (Some number))),
+pub begins-refused : (header : Header) (text : List ℕ) (trace : List TraceLine) (refused : Option ℕ) (reason number : ℕ) (a b c d : Option (List ℕ)) → refused ≡ Some reason → number ≡ length trace + 1 → Appends a b (opening_of text) → Serves header trace b c → AppendsPrefix c d (spelled (RefusedLine number reason)) → BeginsReport header text trace refused a d
+begins-refused header text trace refused reason number a b c d is numbered first (run, clock, ran, h) cut = subst (λ o. BeginsReport header text trace o a d) (sym is) (inr (
+  opening_of text ++ flat_map spelled (whole trace run clock (refusal_of trace (Some reason))),
   (run, clock, ran, refl),
-  subst (AppendsPrefix a d) (sym (refused_bytes trace run clock number)) (prefix-behind a c d (opening_of header_text ++ flat_map spelled (served_lines trace run clock)) (spelled (RefusedLine number not_built)) (Appends-trans a b c (opening_of header_text) (flat_map spelled (served_lines trace run clock)) first h) cut),
+  subst (AppendsPrefix a d) (sym (refused_bytes header text trace run clock reason)) (prefix-behind a c d (opening_of text ++ flat_map spelled (served_lines trace run clock)) (spelled (RefusedLine (length trace + 1) reason)) (Appends-trans a b c (opening_of text) (flat_map spelled (served_lines trace run clock)) first h) (subst (λ n. AppendsPrefix c d (spelled (RefusedLine n reason))) numbered cut)),
 ))
 
 -- ---- The job that was read
 
-pub answered : (job : Option Job) (answer : Status) (left left_after before after : Option (List ℕ)) → IsJob left left_after job → ReadAnswers job answer before after → Answers answer left left_after before after
-answered None answer None left_after before after read h = inr (inl (tt, h))
-answered None answer (Some bytes) left_after before after read h = inr (inl (read, h))
-answered (Some job) answer None left_after before after read h = inl (job.trace.items, job.refused, tt, h)
-answered (Some job) answer (Some bytes) left_after before after read h = inl (job.trace.items, job.refused, read, h)
+pub answered : (reading : Reading) (answer : Status) (left left_after before after : Option (List ℕ)) → IsReading left left_after reading → ReadAnswers reading answer before after → Answers answer left left_after before after
+answered (Refused reason) answer left left_after before after read h = inr (inl (reason, read, h))
+answered (Accepted job) answer left left_after before after read h = inl (job.header, job.text, job.trace.lines.items, job.trace.refused, read, h)
 
-pub not-read-fault : (job : Option Job) (answer : Status) (before after : Option (List ℕ)) → ReadAnswers job answer before after → answer ≡ status.ReadFault → ⊥
-not-read-fault None answer before after h is = subst (λ (s : Status). OpeningAnswers s before after) is h
-not-read-fault (Some job) answer before after h is = subst (λ (s : Status). JobAnswers s job.trace.items job.refused before after) is h
+pub not-read-fault : (reading : Reading) (answer : Status) (before after : Option (List ℕ)) → ReadAnswers reading answer before after → answer ≡ status.ReadFault → ⊥
+not-read-fault (Refused reason) answer before after h is = subst (λ (s : Status). OpeningAnswers s reason before after) is h
+not-read-fault (Accepted job) answer before after h is = subst (λ (s : Status). JobAnswers s job.header job.text job.trace.lines.items job.trace.refused before after) is h
 
 pub stopped : (stop : Stop) (answer : Status) (rose rose_after : ℕ) (left left_after before : Option (List ℕ)) → ReadCause rose rose_after stop → answer ≡ status_of stop → Answers answer left left_after before before
 stopped ReadFault answer rose rose_after left left_after before cause is = inr (inr (subst (λ (s : Status). StopAnswers s before before) (sym is) (Keeps-refl before)))
@@ -117,29 +113,38 @@ stop-write OutOfMemory answer rose rose_after cause is write = let no : status.O
 some_none : (o : Option ℕ) → o ≡ None → IsSome o → ⊥
 some_none o e h = let no : IsSome {T = ℕ} None = subst (λ p. IsSome p) e h in cc
 
-refused_none : (bytes : List ℕ) (left_after other before after : Option (List ℕ)) (trace : List TraceLine) → Answers status.Refused (Some bytes) left_after before after → IsJobOf (Some bytes) other trace None → ⊥
-refused_none bytes left_after other before after trace (inl (shown, refused, (rest, is, of, end), answer)) (whole_rest, is_whole, of_whole, end_whole) =
-    let same : rest ≡ whole_rest = append_cancel_left opening rest whole_rest (sym is ∙ is_whole) in
-    some_none refused (determined job_shape rest shown trace refused None of (subst (λ r. IsTraceOf job_shape r trace None) (sym same) of_whole)).1 answer.0
-refused_none bytes left_after other before after trace (inr (inl (none, answer))) (whole_rest, is_whole, of_whole, end_whole) = none (whole_rest, is_whole)
-refused_none bytes left_after other before after trace (inr (inr answer)) job = answer
+-- bytes open a job in one way
+same_text : (h other : Header) (text other_text rest other_rest : List ℕ) → Accepts h text rest ≡ Accepts other other_text other_rest → (h ≡ other) × (rest ≡ other_rest)
+same_text h other text other_text rest other_rest same = (cc, cc)
 
-pub complete : (answer : Status) (left left_after other before after : Option (List ℕ)) (bytes : List ℕ) (trace : List TraceLine) → Answers answer left left_after before after → left ≡ Some bytes → IsJobOf (Some bytes) other trace None → answer ≡ status.Refused → ⊥
-complete answer left left_after other before after bytes trace answers is job refused =
-    refused_none bytes left_after other before after trace (subst (λ (s : Status). Answers s (Some bytes) left_after before after) refused (subst (λ l. Answers answer l left_after before after) is answers)) job
+refused_none : (bytes : List ℕ) (left_after other before after : Option (List ℕ)) (h : Header) (text : List ℕ) (trace : List TraceLine)
+    → Answers status.Refused (Some bytes) left_after before after → IsJobOf (Some bytes) other h text trace None → ⊥
+refused_none bytes left_after other before after h text trace (inl (h', text', shown, refused, (rest, opens, of, end), answer)) (whole_rest, whole_opens, of_whole, end_whole) =
+    let same = same_text h' h text' text rest whole_rest (sym opens ∙ whole_opens) in
+    let traces : trace_of (shape_of h) whole_rest ≡ record { lines = shown; refused = refused } = subst (λ k. trace_of (shape_of k) whole_rest ≡ record { lines = shown; refused = refused }) same.0
+    (subst (λ l. trace_of (shape_of h') l ≡ record { lines = shown; refused = refused }) same.1 of) in
+    some_none refused (ap (λ t. t.refused) (sym traces ∙ of_whole)) answer.0
+refused_none bytes left_after other before after h text trace (inr (inl (reason, refuses, answer))) (whole_rest, whole_opens, of_whole, end_whole) =
+    let no : Refuses reason ≡ Accepts h text whole_rest = sym refuses ∙ whole_opens in cc
+refused_none bytes left_after other before after h text trace (inr (inr answer)) job = answer
+
+pub complete : (answer : Status) (left left_after other before after : Option (List ℕ)) (bytes : List ℕ) (h : Header) (text : List ℕ) (trace : List TraceLine)
+    → Answers answer left left_after before after → left ≡ Some bytes → IsJobOf (Some bytes) other h text trace None → answer ≡ status.Refused → ⊥
+complete answer left left_after other before after bytes h text trace answers is job refused =
+    refused_none bytes left_after other before after h text trace (subst (λ (s : Status). Answers s (Some bytes) left_after before after) refused (subst (λ l. Answers answer l left_after before after) is answers)) job
 
 pub never-usage : (answer : Status) (left left_after before after : Option (List ℕ)) → Answers answer left left_after before after → answer ≡ status.Usage → ⊥
 never-usage answer left left_after before after answers is = go (subst (λ (s : Status). Answers s left left_after before after) is answers)
   where
     go : Answers status.Usage left left_after before after → ⊥
-    go (inl (trace, refused, job, none)) = none
-    go (inr (inl (not_a_job, none))) = none
+    go (inl (h, text, trace, refused, job, none)) = none
+    go (inr (inl (reason, not_a_job, none))) = none
     go (inr (inr none)) = none
 
 pub never-broken : (answer : Status) (left left_after before after : Option (List ℕ)) → Answers answer left left_after before after → answer ≡ status.Broken → ⊥
 never-broken answer left left_after before after answers is = go (subst (λ (s : Status). Answers s left left_after before after) is answers)
   where
     go : Answers status.Broken left left_after before after → ⊥
-    go (inl (trace, refused, job, none)) = none
-    go (inr (inl (not_a_job, none))) = none
+    go (inl (h, text, trace, refused, job, none)) = none
+    go (inr (inl (reason, not_a_job, none))) = none
     go (inr (inr none)) = none

@@ -1,74 +1,108 @@
--- What a job says: its trace, which is the served lines from the first on, and the line that is refused behind them.
-use Rattle.std.specs.Prelude.{ℕ, ◌≡◌, ◌≢◌, ◌<◌, ◌≤◌, ◌+◌, ◌⊎◌, List, [], ◌∷◌, ◌++◌, length, map, flat_map, IsSome, Some, None, Result, Ok, Err, Bool, true, false, if◌then◌else◌}
-use Rattle.std.specs.List.{All}
+-- What a job says behind its opening: its trace, which is the served lines from the first on, and the reason to refuse the
+-- line behind them. `docs/FORMATS.md` has the same in words.
+use Rattle.std.specs.Prelude.{ℕ, ◌≡◌, ◌+◌, ◌++◌, nat_le, nat_lt, Bool, if◌then◌else◌, List, [], ◌∷◌, length, sum, Some, None, Result, Ok, Err}
 use Rattle.std.specs.declared.option.Option.{Option}
 use Rattle.command_words.specs.Geometry.{Shape}
-use Rattle.ddr_io.specs.Line.{line_feed, HasNoFeed}
+use Rattle.command_words.specs.declared.words.WordFault.TheVariants as word
+use Rattle.ddr_text.specs.Barriers.{idle_clocks}
 use Rattle.ddr_text.specs.Grammar.{trace_line_of}
+use Rattle.ddr_text.specs.Opening.{parts_of, is_long, IsReason, Accepts, Refuses, opening_of}
+use Rattle.ddr_text.specs.Sound.{shape_of}
 use Rattle.ddr_text.specs.declared.lines.LineFault.{LineFault}
+use Rattle.ddr_text.specs.declared.lines.LineFault.TheVariants.{Empty, Letter, Fields, Number, Range, Hex, Word}
 use Rattle.ddr_text.specs.declared.lines.TraceLine.{TraceLine}
 use Rattle.ddr_text.specs.declared.lines.TraceLine.TheVariants.{Read, Write, Flip, Idle}
+use Rattle.speed_bin.specs.Document.{header_stated}
+use Rattle.speed_bin.specs.Header.{IsAccepted}
+use Rattle.speed_bin.specs.declared.header.Header.{Header}
 use Rattle.trace_replay.specs.Trace.{MOST}
-use Rattle.trace_replay.specs.declared.format.TheConstants.{HEADER, OPENING}
 
--- the bytes of a job before its trace
-unfoldable pub opening : List ℕ
-opening = OPENING.now
+-- ---- One line
 
--- the shape of the subchannel
-abbrev pub job_shape : Shape
-job_shape = record { rows = HEADER.settings.rows; groups = 8 }
+-- the reason of a line's fault; no line of a trace has the fault Word
+abbrev pub fault_reason : LineFault → ℕ
+fault_reason Empty = 1
+fault_reason Letter = 2
+fault_reason Fields = 3
+fault_reason Number = 4
+fault_reason Range = 5
+fault_reason Hex = 6
+fault_reason (Word word.Unknown) = 31
+fault_reason (Word word.SecondMissing) = 32
+fault_reason (Word word.SecondExtra) = 33
+fault_reason (Word word.Reserved) = 34
+fault_reason (Word word.Range) = 35
 
--- the bytes begin with these
-abbrev pub BeginsWith : List ℕ → List ℕ → Type 0
-BeginsWith bytes front = (rest : List ℕ) × (bytes ≡ front ++ rest)
+-- why an I line that is in the grammar is refused behind these lines: the sum of all, or else that none is served yet
+abbrev pub idle_reason : List TraceLine → ℕ → ℕ
+idle_reason trace clocks = if nat_lt 4294967296 (sum (idle_clocks trace) + clocks) then 10 else 20
 
--- R and W lines are served
-abbrev pub is_served : TraceLine → Bool
-is_served (Read line) = true
-is_served (Write line data_bytes) = true
-is_served (Flip line device bit) = false
-is_served (Idle clocks) = false
+-- the trace with this line more, or the reason to refuse it; no F or I line is served yet
+abbrev pub with_line : List TraceLine → TraceLine → Result (List TraceLine) ℕ
+with_line trace (Read line) = Ok (trace ++ Read line ∷ [])
+with_line trace (Write line bytes) = Ok (trace ++ Write line bytes ∷ [])
+with_line trace (Flip line device bit) = Err 20
+with_line trace (Idle clocks) = Err (idle_reason trace clocks)
 
-abbrev pub if_served : Result TraceLine LineFault → Option TraceLine
-if_served (Ok line) = if is_served line then Some line else None
-if_served (Err fault) = None
+abbrev pub if_read : List TraceLine → Result TraceLine LineFault → Result (List TraceLine) ℕ
+if_read trace (Ok line) = with_line trace line
+if_read trace (Err fault) = Err (fault_reason fault)
 
--- the served line that a text spells
-abbrev pub served_line : Shape → List ℕ → Option TraceLine
-served_line g text = if_served (trace_line_of g text)
+-- no more lines may follow
+abbrev pub is_full : List TraceLine → Bool
+is_full trace = nat_le MOST (length trace)
 
--- the text of a line: at most 511 bytes, none of them a line feed
-abbrev pub IsText : List ℕ → Type 0
-IsText text = (length text < 512) × HasNoFeed text
+-- the trace with the line more that a text spells, or the first reason to refuse it
+abbrev pub with_text : Shape → List TraceLine → List ℕ → Result (List TraceLine) ℕ
+with_text g trace text = if is_full trace then Err 9 else if_read trace (trace_line_of g text)
 
--- a text with its line feed
-abbrev pub with_feed : List ℕ → List ℕ
-with_feed text = text ++ line_feed ∷ []
+-- the same, where the text may be too long
+abbrev pub with_part : Shape → List TraceLine → List ℕ → Result (List TraceLine) ℕ
+with_part g trace part = if is_full trace then Err 9 else if is_long part then Err 7 else if_read trace (trace_line_of g part)
 
--- the bytes begin with a line that is served
-abbrev pub BeginsWithServed : Shape → List ℕ → Type 0
-BeginsWithServed g bytes = (text : List ℕ) × IsText text × IsSome (served_line g text) × BeginsWith bytes (with_feed text)
+-- ---- All lines
 
--- the bytes are the lines of a trace, and then these
-pub record IsTrace (g : Shape) (bytes : List ℕ) (trace : List TraceLine) (rest : List ℕ) : Type 0 where
-  pub texts : List (List ℕ)
-  pub are_texts : All IsText texts
-  pub whole : bytes ≡ flat_map with_feed texts ++ rest
-  pub served : map (served_line g) texts ≡ map Some trace
-  pub most : length trace ≤ MOST
+-- the lines that are served, and the reason to refuse the line behind them, where there is one
+pub record Traced : Type 0 where
+  pub lines : List TraceLine
+  pub refused : Option ℕ
 
--- What is behind a trace: nothing, or else the line that is refused, which is not served or is one too many.
-abbrev pub IsRefusal : Shape → List TraceLine → List ℕ → Option ℕ → Type 0
-IsRefusal g trace rest None = rest ≡ []
-IsRefusal g trace rest (Some number) =
-    (number ≡ length trace + 1) × (rest ≢ []) × ((length trace ≡ MOST) ⊎ (¬ BeginsWithServed g rest))
+abbrev pub ended : List TraceLine → Traced
+ended trace = record { lines = trace; refused = None }
 
--- the bytes behind an opening are this trace and this refusal
-abbrev pub IsTraceOf : Shape → List ℕ → List TraceLine → Option ℕ → Type 0
-IsTraceOf g bytes trace refused = (rest : List ℕ) × IsTrace g bytes trace rest × IsRefusal g trace rest refused
+abbrev pub refused_behind : List TraceLine → ℕ → Traced
+refused_behind trace reason = record { lines = trace; refused = Some reason }
 
--- they are no other
-abbrev pub IsDetermined : Type 0
-IsDetermined = (g : Shape) (bytes : List ℕ) (trace other : List TraceLine) (refused refused_other : Option ℕ)
-    → IsTraceOf g bytes trace refused → IsTraceOf g bytes other refused_other → (trace ≡ other) × (refused ≡ refused_other)
+-- what has no line feed behind it is refused, where it has a byte
+abbrev pub at_end : List TraceLine → List ℕ → Traced
+at_end trace [] = ended trace
+at_end trace (byte ∷ bytes) = refused_behind trace (if is_full trace then 9 else if is_long (byte ∷ bytes) then 7 else 8)
+
+abbrev pub continued : List TraceLine → Result (List TraceLine) ℕ → (List TraceLine → Traced) → Traced
+continued trace (Ok longer) go_on = go_on longer
+continued trace (Err reason) go_on = refused_behind trace reason
+
+-- the trace, of which these lines stand before these parts
+abbrev pub trace_from : Shape → List TraceLine → List (List ℕ) → Traced
+trace_from g trace [] = ended trace
+trace_from g trace (last ∷ []) = at_end trace last
+trace_from g trace (line ∷ next ∷ parts) = continued trace (with_part g trace line) (λ longer. trace_from g longer (next ∷ parts))
+
+-- the trace that bytes spell
+abbrev pub trace_of : Shape → List ℕ → Traced
+trace_of g bytes = trace_from g [] (parts_of bytes)
+
+-- ---- A whole job
+
+-- The known bytes open a job with this header and this text, and behind it stand this trace and this refusal. Where nothing
+-- is refused, none is left.
+abbrev pub IsJobOf : Option (List ℕ) → Option (List ℕ) → Header → List ℕ → List TraceLine → Option ℕ → Type 0
+IsJobOf None new header text trace refused = IsAccepted header × (header_stated text ≡ Ok header)
+IsJobOf (Some bytes) new header text trace refused =
+    (rest : List ℕ) × (opening_of bytes ≡ Accepts header text rest)
+    × (trace_of (shape_of header) rest ≡ record { lines = trace; refused = refused }) × (refused ≡ None → new ≡ Some [])
+
+-- the opening of the known bytes is refused with this reason
+abbrev pub IsNoJob : Option (List ℕ) → ℕ → Type 0
+IsNoJob None reason = IsReason reason
+IsNoJob (Some bytes) reason = opening_of bytes ≡ Refuses reason

@@ -10,3 +10,5 @@ pub mod Job
 pub mod Reading
 pub mod Writing
 pub mod Replay
+pub mod Coupled
+pub mod Driving

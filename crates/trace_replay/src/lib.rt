@@ -3,9 +3,13 @@
 
 mod banks;
 mod controller;
-mod format;
+mod coupled;
+#[cfg(test)]
+mod coupled_tests;
 mod job;
 mod progress;
+#[cfg(test)]
+mod refusal_tests;
 mod register_writes;
 mod replay_loop;
 mod request;
@@ -15,5 +19,5 @@ mod store;
 mod tests;
 mod writing;
 
-pub use job::job_is_determined;
+pub use coupled::Coupled;
 pub use replay_loop::replay;

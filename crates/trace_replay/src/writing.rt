@@ -4,17 +4,18 @@ ghost use Rattle.std.specs.List.{flat_map};
 ghost use Rattle.std.specs.Io.KnownBytes.{Appends};
 ghost use Rattle.ddr_io.specs.Sink.{AppendsPrefix};
 ghost use Rattle.ddr_text.specs.Spelling.{spelled};
-ghost use Rattle.trace_replay.specs.Job.{job_shape};
+ghost use Rattle.ddr_text.specs.Sound.{shape_of};
+ghost use Rattle.speed_bin.specs.Header.{IsAccepted};
 ghost use Rattle.trace_replay.specs.Stop.{WriteCause};
 ghost use Rattle.trace_replay.specs.Trace.{AreRequests, MOST};
 ghost use Rattle.trace_replay.specs.Writing.{Serves, BeginsToServe};
 
-use crate::format::HEADER;
 use crate::progress::Progress;
 use crate::stop::{Stop, put};
 use arrayvec::ArrayVec;
 use ddr_io::Sink;
 use ddr_text::{ReportLine, TraceLine, write_report_line};
+use speed_bin::Header;
 use std::alloc::Global;
 
 /// Writes a line.
@@ -44,15 +45,21 @@ fn put_lines<K: Sink>(lines: &[ReportLine], sink: &mut K) -> Result<(), Stop>
 }
 
 /// Serves the trace, and writes the lines of each turn as it makes them, and the E line.
-pub fn serve<K: Sink>(alloc: Global, trace: &[TraceLine], sink: &mut K) -> Result<(), Stop>
-    requires requests { AreRequests job_shape trace.now }
+pub fn serve<K: Sink>(
+    alloc: Global,
+    header: &Header,
+    trace: &[TraceLine],
+    sink: &mut K,
+) -> Result<(), Stop>
+    requires accepted { IsAccepted header.now }
+    requires requests { AreRequests (shape_of header.now) trace.now }
     requires few { length trace.now ≤ MOST }
-    ensures whole { OnOk result (Serves trace.now (K.written sink.old) (K.written sink.new)) }
-    ensures cut { IfErr result (λ stop. BeginsToServe trace.now (K.written sink.old) (K.written sink.new)) }
+    ensures whole { OnOk result (Serves header.now trace.now (K.written sink.old) (K.written sink.new)) }
+    ensures cut { IfErr result (λ stop. BeginsToServe header.now trace.now (K.written sink.old) (K.written sink.new)) }
     ensures later { K.faults sink.old ≤ K.faults sink.new }
     ensures cause { IfErr result (WriteCause (K.faults sink.old) (K.faults sink.new)) }
 {
-    let mut progress = match Progress::new(alloc, &HEADER, trace) {
+    let mut progress = match Progress::new(alloc, header, trace) {
         Ok(progress) => progress,
         Err(_) => return Err(Stop::OutOfMemory),
     };

@@ -12,4 +12,4 @@ returns-in-len1-clause-usage g c =
     (λ usage. absurd (c.replay.ensures.usage usage), λ other. absurd (other is))
 
 pub returns-in-len1-clause-complete : goal.returns-in-len1-clause-complete
-returns-in-len1-clause-complete g c = λ bytes left trace words known whole. c.replay.ensures.complete bytes left trace known whole
+returns-in-len1-clause-complete g c = λ bytes left h text trace words known whole. c.replay.ensures.complete bytes left h text trace known whole

@@ -5,7 +5,7 @@ use Rattle.trace_replay.proofs.writing.serve.Given as goal
 
 abbrev pub invariant-turns : goal.invariant-turns
 invariant-turns g l = record {
-  written : Written l.trace l.progress (g.K.Sink.written l.initial.sink) (g.K.Sink.written l.sink);
+  written : Written l.header l.trace l.progress (g.K.Sink.written l.initial.sink) (g.K.Sink.written l.sink);
   later : g.K.Sink.faults l.initial.sink ≤ g.K.Sink.faults l.sink;
 }
 

@@ -1,4 +1,4 @@
-use Rattle.std.proofs.Common.{List, ap, subst, sym, ◌∷◌, arith}
+use Rattle.std.proofs.Common.{ap, subst, sym, ◌∷◌, arith}
 use Rattle.ddr_text.specs.Runs.{log_of}
 use Rattle.timing_rules.specs.Gate.{StandsFor as GateStandsFor}
 use Rattle.timing_rules.specs.declared.gate.Gate.{Gate}

@@ -1,0 +1,67 @@
+-- The checks of a header have the numbers 1 to 8.
+use Rattle.std.proofs.Common.{◌≡◌, ℕ, suc, ◌+◌, ◌<◌, ◌≤◌, ◌⊎◌, inl, inr, Bool, true, false, if◌then◌else◌, List, [], ◌∷◌, length, not, ◌&&◌, refl, sym, ◌∙◌, subst, arith, Option, Some, None, Result, Ok, Err}
+use Rattle.std.specs.Str.{is_utf8}
+use Rattle.std.specs.Prelude.{codes, option_and_then}
+use Rattle.speed_bin.specs.Document.{checks_of, failed, checked, with_bin, header_of, header_stated, timing_in, settings_in, text_at}
+use Rattle.speed_bin.specs.Keys.{all_members, key_fits, kind_fits, range_fits, has_required}
+use Rattle.speed_bin.specs.Rules.{first_failing}
+use Rattle.speed_bin.specs.Timing.{bin_named}
+use Rattle.speed_bin.specs.declared.fault.HeaderFault.{HeaderFault}
+use Rattle.speed_bin.specs.declared.fault.HeaderFault.TheVariants.{NotToml, Key, Kind, Range, NoBin, Check, OutOfMemory}
+use Rattle.speed_bin.specs.declared.header.Header.{Header}
+use Rattle.speed_bin.specs.declared.timing.Timing.{Timing}
+use Rattle.ddr_text.specs.Opening.{IsReason}
+
+abbrev IsCheck : ℕ → Type 0
+IsCheck check = (1 ≤ check) × (check ≤ 8)
+
+-- a check that fails is one of the eight
+abbrev FailsCheck : Result Header HeaderFault → Type 0
+FailsCheck (Ok header) = Unit {0}
+FailsCheck (Err (Check check)) = IsCheck check
+FailsCheck (Err NotToml) = Unit {0}
+FailsCheck (Err Key) = Unit {0}
+FailsCheck (Err Kind) = Unit {0}
+FailsCheck (Err Range) = Unit {0}
+FailsCheck (Err NoBin) = Unit {0}
+FailsCheck (Err OutOfMemory) = Unit {0}
+
+failing : (n : ℕ) (tests : List Bool) (check : ℕ) → first_failing n tests ≡ Some check → (n ≤ check) × (check < n + length tests)
+failing n [] check is = absurd (let no : ⊥ = cc in no)
+failing n (true ∷ tests) check is = let more = failing (suc n) tests check is in (omega (arith, more.0), omega (arith, more.1))
+failing n (false ∷ tests) check is = let same : n ≡ check = cc in (omega (arith, same), omega (arith, same))
+
+if_failed : (h : Header) (check : Option ℕ) → ((number : ℕ) → check ≡ Some number → IsCheck number) → FailsCheck (failed h check)
+if_failed h None is = tt
+if_failed h (Some number) is = is number refl
+
+of_checked : (h : Header) → FailsCheck (checked h)
+unfolding checks_of
+of_checked h = if_failed h (first_failing 1 (checks_of h)) (λ number is. let found = failing 1 (checks_of h) number is in (found.0, omega (arith, found.1)))
+
+of_bin : (top : _) (bin : Option Timing) → FailsCheck (with_bin top bin)
+of_bin top None = tt
+of_bin top (Some bin) = of_checked (record { timing = timing_in bin top; settings = settings_in top })
+
+either : (test : Bool) (x y : Result Header HeaderFault) → FailsCheck x → FailsCheck y → FailsCheck (if test then x else y)
+either true x y first second = first
+either false x y first second = second
+
+of_members : (top : _) → FailsCheck (header_of top)
+of_members None = tt
+of_members (Some top) =
+    either (not (all_members key_fits top && has_required top)) _ _ tt (either (not (all_members kind_fits top)) _ _ tt
+    (either (not (all_members range_fits top)) _ _ tt (of_bin top (option_and_then bin_named (text_at (codes "bin") top)))))
+
+of_text : (text : List ℕ) → FailsCheck (header_stated text)
+of_text text = either (is_utf8 text) _ _ (of_members _) tt
+
+-- the reason of a check is one of the reasons
+pub reason_of_check : (text : List ℕ) (check : ℕ) → header_stated text ≡ Err (Check check) → (20 + check ≤ 28) × IsReason (20 + check)
+reason_of_check text check is =
+    let is_check : IsCheck check = subst FailsCheck is (of_text text) in
+    (omega (arith, is_check.1), inr (omega (arith, is_check.0), omega (arith, is_check.1)))
+
+pub stated : (text : List ℕ) (check : ℕ) (r : Result Header HeaderFault) → r ≡ Err (Check check) → (r ≡ Err OutOfMemory) ⊎ (r ≡ header_stated text) → header_stated text ≡ Err (Check check)
+stated text check r found (inl is) = absurd (let no : ⊥ = cc in no)
+stated text check r found (inr is) = sym is ∙ found

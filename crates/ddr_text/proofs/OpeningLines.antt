@@ -1,0 +1,172 @@
+-- The header of a job, line by line.
+use Rattle.std.proofs.Common.{codes, ◌≡◌, ◌≢◌, ℕ, ◌+◌, ◌<◌, ◌≤◌, Bool, true, false, if◌then◌else◌, List, [], ◌∷◌, ◌++◌, length, take, drop, get_or, refl, sym, ap, ◌∙◌, subst, arith, append_assoc, length-append, length-take-le, take-append-drop, drop_at, Option, Some, None, Result, Ok, Err, OnErr, lit<}
+use Rattle.std.specs.List.{All, slice_split, onto_first}
+use Rattle.std.specs.Io.KnownBytes.{Consumes}
+use Rattle.std.proofs.KnownBytes.{Consumes-trans}
+use Rattle.std.proofs.lemmas.Bool.{ne_eqb, le-ltb, lt-ltb, ltb-false}
+use Rattle.std.proofs.lemmas.Slice.Eq.{bytes_eq-Decides}
+use Rattle.std.proofs.lemmas.List.Splits.{slice_split_at, slice_split_none, slice_split-cons_yes, slice_split-cons_no}
+use Rattle.std.proofs.lemmas.List.Elements.{All-nil, All-head, All-tail}
+use Rattle.ddr_io.specs.Line.{HasNoFeed, IsNextLine}
+use Rattle.ddr_io.specs.declared.line_reader.Line.TheVariants.{Text, End, TooLong, Unended}
+use Rattle.ddr_text.specs.declared.opening.Front.TheVariants as front
+use Rattle.ddr_text.specs.Front.{IsFront}
+use Rattle.ddr_text.specs.Opening.{is_feed, parts_of, with_feed, is_long, is_separator, is_large, header_text}
+
+-- ---- Parts
+
+not_feed : (x : ℕ) → x ≢ 10 → is_feed x ≡ false
+not_feed x other = ne_eqb x 10 other
+
+no_feeds : (xs : List ℕ) → HasNoFeed xs → All (λ x. is_feed x ≡ false) xs
+no_feeds xs clean = λ i d low. not_feed (get_or xs i d) (clean i d low)
+
+-- bytes have a first part
+first_part : (xs : List ℕ) → (first : List ℕ) × (rest : List (List ℕ)) × (slice_split is_feed xs ≡ first ∷ rest)
+first_part [] = ([], [], refl)
+first_part (x ∷ xs) = go (is_feed x) refl (first_part xs)
+  where
+    go : (b : Bool) → is_feed x ≡ b → ((first : List ℕ) × (rest : List (List ℕ)) × (slice_split is_feed xs ≡ first ∷ rest))
+        → (first : List ℕ) × (rest : List (List ℕ)) × (slice_split is_feed (x ∷ xs) ≡ first ∷ rest)
+    go true e more = ([], slice_split is_feed xs, slice_split-cons_yes is_feed x xs e)
+    go false e more = (x ∷ more.0, more.1, slice_split-cons_no is_feed x xs e ∙ ap (onto_first x) more.2)
+
+-- bytes without a line feed begin the first part
+long_part : (front xs : List ℕ) → HasNoFeed front → (first : List ℕ) × (rest : List (List ℕ)) × (slice_split is_feed (front ++ xs) ≡ (front ++ first) ∷ rest)
+long_part [] xs clean = first_part xs
+long_part (x ∷ front) xs clean =
+    let more = long_part front xs (All-tail (λ b. b ≢ 10) x front clean) in
+    (more.0, more.1, slice_split-cons_no is_feed x (front ++ xs) (not_feed x (All-head (λ b. b ≢ 10) x front clean)) ∙ ap (onto_first x) more.2)
+
+-- the first line is a part
+line_part : (line rest : List ℕ) → HasNoFeed line → slice_split is_feed (with_feed line ++ rest) ≡ line ∷ slice_split is_feed rest
+line_part line rest clean =
+    ap (slice_split is_feed) (append_assoc line (10 ∷ []) rest) ∙ slice_split_at is_feed line 10 rest (no_feeds line clean) refl
+
+-- ---- What is left, behind the text so far
+
+-- the text of the whole is that of what is left, behind this much of it
+abbrev pub Continues : Option (List ℕ) → List ℕ → Option (List ℕ) → Type 0
+Continues None text left = Unit {0}
+Continues (Some bytes) text None = ⊥
+Continues (Some bytes) text (Some left) = header_text [] (parts_of bytes) ≡ header_text text (parts_of left)
+
+pub continues-start : (bytes : Option (List ℕ)) → Continues bytes [] bytes
+continues-start None = tt
+continues-start (Some bytes) = refl
+
+short : (line : List ℕ) → length line < 512 → is_long line ≡ false
+short line few = le-ltb 511 (length line) (omega (arith, few))
+
+long : (line : List ℕ) → 512 ≤ length line → is_long line ≡ true
+long line many = lt-ltb 511 (length line) (omega (arith, many))
+
+-- behind a line stands another part
+two_parts : (text line rest : List ℕ) → HasNoFeed line → length line < 512
+    → header_text text (parts_of (with_feed line ++ rest))
+    ≡ (if is_separator line then Ok text else if is_large (text ++ with_feed line) then Err 17 else header_text (text ++ with_feed line) (parts_of rest))
+unfolding parts_of
+two_parts text line rest clean few =
+    let next = first_part rest in
+    let split : slice_split is_feed (with_feed line ++ rest) ≡ line ∷ next.0 ∷ next.1 = line_part line rest clean ∙ ap (λ l. line ∷ l) next.2 in
+    rw (split, next.2, short line few) refl
+
+-- one line more was read
+line_read : (bytes left rest text line : List ℕ) → header_text [] (parts_of bytes) ≡ header_text text (parts_of left) → HasNoFeed line → length line < 512
+    → left ≡ with_feed line ++ rest → header_text [] (parts_of bytes)
+    ≡ (if is_separator line then Ok text else if is_large (text ++ with_feed line) then Err 17 else header_text (text ++ with_feed line) (parts_of rest))
+line_read bytes left rest text line continues clean few is =
+    continues ∙ ap (λ l. header_text text (parts_of l)) is ∙ two_parts text line rest clean few
+
+-- the next line is the separator
+pub found_separator : (old now new : Option (List ℕ)) (text line : List ℕ) → Consumes old now text → Continues old text now → IsNextLine now new line Text
+    → is_separator line ≡ true → IsFront old new (front.Text text)
+found_separator None now new text line taken continues next is = tt
+found_separator (Some bytes) None new text line taken continues next is = absurd taken
+found_separator (Some bytes) (Some left) None text line taken continues next is = absurd next.2
+found_separator (Some bytes) (Some left) (Some rest) text line taken continues next is =
+    let same : line ≡ codes "---" = (bytes_eq-Decides line (codes "---")).0 is in
+    let whole : bytes ≡ (text ++ with_feed line) ++ rest = taken ∙ ap (λ l. text ++ l) next.2 ∙ sym (append_assoc text (with_feed line) rest) in
+    let four : length (text ++ with_feed line) ≡ length text + 4 = length-append text (with_feed line) ∙ ap (λ l. length text + length (with_feed l)) same in (
+      line_read bytes left rest text line continues next.1 next.0 next.2 ∙ ap (λ b. if b then Ok text else if is_large (text ++ with_feed line) then Err 17 else header_text (text ++ with_feed line) (parts_of rest)) is,
+      ap Some (sym (ap (drop (length text + 4)) whole ∙ drop_at (text ++ with_feed line) rest (length text + 4) four)),
+    )
+
+otherwise : {A : Type 0} (first second : Bool) (x y z : A) → first ≡ false → (if first then x else if second then y else z) ≡ (if second then y else z)
+otherwise first second x y z is = rw is refl
+
+-- the next line is one too many
+pub too_much : (old now new : Option (List ℕ)) (text line : List ℕ) → Continues old text now → IsNextLine now new line Text
+    → is_separator line ≡ false → is_large (text ++ with_feed line) ≡ true → IsFront old new (front.Refused 17)
+too_much None now new text line continues next other large = tt
+too_much (Some bytes) None new text line continues next other large = absurd continues
+too_much (Some bytes) (Some left) None text line continues next other large = absurd next.2
+too_much (Some bytes) (Some left) (Some rest) text line continues next other large =
+    line_read bytes left rest text line continues next.1 next.0 next.2
+    ∙ otherwise (is_separator line) (is_large (text ++ with_feed line)) (Ok text) (Err 17) (header_text (text ++ with_feed line) (parts_of rest)) other
+    ∙ ap (λ b. if b then Err 17 else header_text (text ++ with_feed line) (parts_of rest)) large
+
+-- the next line is one of the header
+pub continues-line : (old now new : Option (List ℕ)) (text line longer : List ℕ) → longer ≡ text ++ with_feed line → Continues old text now → IsNextLine now new line Text
+    → is_separator line ≡ false → is_large (text ++ with_feed line) ≡ false → Continues old longer new
+continues-line None now new text line longer more continues next other large = tt
+continues-line (Some bytes) None new text line longer more continues next other large = absurd continues
+continues-line (Some bytes) (Some left) None text line longer more continues next other large = absurd next.2
+continues-line (Some bytes) (Some left) (Some rest) text line longer more continues next other large =
+    line_read bytes left rest text line continues next.1 next.0 next.2
+    ∙ otherwise (is_separator line) (is_large (text ++ with_feed line)) (Ok text) (Err 17) (header_text (text ++ with_feed line) (parts_of rest)) other
+    ∙ ap (λ b. if b then Err 17 else header_text (text ++ with_feed line) (parts_of rest)) large
+    ∙ ap (λ t. header_text t (parts_of rest)) (sym more)
+
+-- ---- No line more
+
+last_long : (text part : List ℕ) (rest : List (List ℕ)) → is_long part ≡ true → header_text text (part ∷ rest) ≡ Err 17
+last_long text part [] is = rw is refl
+last_long text part (next ∷ rest) is = rw is refl
+
+long_left : (text left : List ℕ) → 512 ≤ length left → HasNoFeed (take 512 left) → header_text text (parts_of left) ≡ Err 17
+unfolding parts_of
+long_left text left many clean =
+    let found = long_part (take 512 left) (drop 512 left) clean in
+    let whole = ap (slice_split is_feed) (sym (take-append-drop 512 left)) ∙ found.2 in
+    let front : length (take 512 left) ≡ 512 = length-take-le 512 left many in
+    ap (header_text text) whole ∙ last_long text (take 512 left ++ found.0) found.1 (long (take 512 left ++ found.0) (omega (arith, front, length-append (take 512 left) found.0)))
+
+short_left : (text left : List ℕ) → length left < 512 → HasNoFeed left → header_text text (parts_of left) ≡ Err 16
+unfolding parts_of
+short_left text left few clean =
+    ap (header_text text) (slice_split_none is_feed left (no_feeds left clean)) ∙ ap (λ b. if b then Err 17 else Err 16) (short left few)
+
+-- the next 512 bytes are no line
+pub too_long : (old now new later : Option (List ℕ)) (text line : List ℕ) → Continues old text now → IsNextLine now new line TooLong → IsFront old later (front.Refused 17)
+too_long None now new later text line continues next = tt
+too_long (Some bytes) None new later text line continues next = absurd continues
+too_long (Some bytes) (Some left) new later text line continues next = continues ∙ long_left text left next.0.0 next.0.1
+
+-- the end comes within a line
+pub unended : (old now new later : Option (List ℕ)) (text line : List ℕ) → Continues old text now → IsNextLine now new line Unended → IsFront old later (front.Refused 16)
+unended None now new later text line continues next = tt
+unended (Some bytes) None new later text line continues next = absurd continues
+unended (Some bytes) (Some left) new later text line continues next = continues ∙ short_left text left next.0.1 next.0.2
+
+-- no byte is left
+pub at_end : (old now new later : Option (List ℕ)) (text line : List ℕ) → Continues old text now → IsNextLine now new line End → IsFront old later (front.Refused 16)
+at_end None now new later text line continues next = tt
+at_end (Some bytes) None new later text line continues next = absurd continues
+at_end (Some bytes) (Some left) new later text line continues next =
+    continues ∙ ap (λ l. header_text text (parts_of l)) next.0 ∙ short_left text [] (lit< tt) (All-nil (λ b. b ≢ 10))
+
+pub within : (text : List ℕ) → is_large text ≡ false → length text ≤ 65536
+within text small = ltb-false 65536 (length text) small
+
+-- the bytes that were taken before memory was wanting
+pub taken-line : {T E : Type 0} (old now new : Option (List ℕ)) (text line : List ℕ) (r : Result T E) → Consumes old now text → IsNextLine now new line Text
+    → OnErr r ((bytes : List ℕ) × Consumes old new bytes)
+taken-line old now new text line (Ok x) taken next = tt
+taken-line old now new text line (Err e) taken next = (text ++ with_feed line, Consumes-trans old now new text (with_feed line) taken next.2)
+
+pub taken-front : {T E : Type 0} (old new : Option (List ℕ)) (text : List ℕ) (r : Result T E) → IsFront old new (front.Text text) → OnErr r ((bytes : List ℕ) × Consumes old new bytes)
+taken-front old new text (Ok x) found = tt
+taken-front None new text (Err e) found = ([], tt)
+taken-front (Some bytes) new text (Err e) found =
+    (take (length text + 4) bytes, subst (λ n. Consumes (Some bytes) n (take (length text + 4) bytes)) (sym found.1) (sym (take-append-drop (length text + 4) bytes)))

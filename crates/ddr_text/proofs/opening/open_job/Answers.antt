@@ -1,0 +1,8 @@
+use Rattle.std.proofs.Common.{subst}
+use Rattle.ddr_text.specs.Front.{IsFront}
+use Rattle.ddr_text.proofs.OpeningLines.{taken-front}
+use Rattle.ddr_text.proofs.opening.open_job.Goals as goal
+
+pub returns-in-Text-clause-taken : goal.returns-in-Text-clause-taken
+returns-in-Text-clause-taken g c =
+    taken-front _ _ c.in-Text.text c.judge.result (subst (IsFront _ _) c.in-Text.is c.in_ok-text.ensures.front)

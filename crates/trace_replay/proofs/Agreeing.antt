@@ -1,0 +1,158 @@
+-- One list at both ends: its logs are the same, a turn leaves it as it was, and what is pending may be given.
+use Rattle.std.proofs.Common.{◌≡◌, ◌∙◌, ◌<◌, ◌^◌, ℕ, Bool, false, Option, Some, None, is_some, option_map, option_copied, List, [], ◌∷◌, max, IsTrue, refl, sym, ap, subst, arith}
+use Rattle.std.proofs.lemmas.Bool.Decides.{nat_tests}
+use Rattle.std.specs.Borrow.{Bor}
+use Rattle.command_words.specs.Command.{IsInRange}
+use Rattle.command_words.specs.Words.{Spells}
+use Rattle.command_words.specs.declared.command.Command.{Command}
+use Rattle.command_words.specs.declared.command.Command.TheVariants.{Act, Rd, Wr, PrePb, PreSb, PreAb, RefAb, RefSb, RfmAb, RfmSb, Mrw, Ecs, Nop}
+use Rattle.command_words.specs.declared.words.Words.{Words}
+use Rattle.speed_bin.specs.Alert.{alert}
+use Rattle.speed_bin.specs.Kinds.{is_wr}
+use Rattle.speed_bin.specs.Log.{Log}
+use Rattle.speed_bin.specs.Marks.{is_in_range}
+use Rattle.speed_bin.specs.Rules.{all_closed, broken, broken_at_end}
+use Rattle.speed_bin.specs.declared.header.Header.{Header}
+use Rattle.requests.specs.Choice.{IsChosen, IsOldestRow, IsPrompt}
+use Rattle.requests.specs.Queue.{Step as NumberedStep, places, waiting}
+use Rattle.requests.specs.declared.request.Request.{Request}
+use Rattle.requests.specs.declared.waiting.Waiting.{Waiting}
+use Rattle.scheduler.specs.Controller.{number_of, StandsFor as ControllerFor, After as ControllerAfter, from_of as controller_from}
+use Rattle.scheduler.specs.declared.controller.Controller.{Controller}
+use Rattle.scheduler.specs.declared.turn.Turn.{Turn}
+use Rattle.scheduler.specs.declared.turn.Turn.TheVariants.{Issue, Idle, Done}
+use Rattle.device_core.specs.Standing.{StandsFor as DeviceFor, MayFollow}
+use Rattle.device_core.specs.Steps.{log_of as device_log}
+use Rattle.device_core.specs.declared.device.Device.{Device}
+use Rattle.trace_replay.specs.Coupled.{Step, Delivers, Flips, log_of, controller_steps, device_steps, with_pending, issued_as, issued_in, step_of, IsDue, IsDueIfAny, IsAwaited, delivered, Keeps, StandsFor, After, controller_of, pending_of}
+use Rattle.trace_replay.specs.declared.coupled.Pending.{Pending}
+use Rattle.trace_replay.specs.declared.coupled.Coupled.{Coupled}
+
+-- ---- One log
+
+pub places_are : (steps : List Step) → places (controller_steps steps) ≡ log_of steps
+places_are [] = refl
+places_are (Delivers d ∷ steps) = ap (λ (log : Log). d.issued ∷ log) (places_are steps)
+places_are (Flips place device bit ∷ steps) = places_are steps
+
+pub device_log_is : (steps : List Step) → device_log (device_steps steps) ≡ log_of steps
+device_log_is [] = refl
+device_log_is (Delivers d ∷ steps) = ap (λ (log : Log). d.issued ∷ log) (device_log_is steps)
+device_log_is (Flips place device bit ∷ steps) = device_log_is steps
+
+-- ---- A turn
+
+-- where nothing is pending, the controller stands for the list itself
+pub unpended : (c : Coupled) (h : Header) (offered : List Request) (idle : ℕ) (steps : List Step) → option_map step_of c.pending ≡ None → Keeps c h offered idle steps → ControllerFor h c.controller offered idle (controller_steps steps)
+unpended c h offered idle steps e s = subst (λ (p : Option NumberedStep). ControllerFor h c.controller offered idle (with_pending p (controller_steps steps))) e s.controller
+
+pub told : (c : Coupled) (h : Header) (offered : List Request) (idle : ℕ) (steps : List Step) → Keeps c h offered idle steps → c.alert ≡ is_some (alert h (places (controller_steps steps)))
+told c h offered idle steps s = s.alert ∙ sym (ap (λ (log : Log). is_some (alert h log)) (places_are steps))
+
+-- what holds of every controller
+pub record Laws : Type 0 where
+  pub inside : (h : Header) (c : Controller) (offered : List Request) (idle : ℕ) (log : List NumberedStep) (b row : ℕ) → ControllerFor h c offered idle log → IsOldestRow (waiting h offered log) b row → row < h.settings.rows
+  pub newest : (h : Header) (c : Controller) (offered : List Request) (idle : ℕ) (step : NumberedStep) (log : List NumberedStep) → ControllerFor h c offered idle (step ∷ log) → step.issued.clock < controller_from c
+  pub near : (h : Header) (c : Controller) (offered : List Request) (idle : ℕ) (log : List NumberedStep) → ControllerFor h c offered idle log → controller_from c < 2 ^ 48
+
+row_inside : (h : Header) (ws : List Waiting) (log : Log) (clock : ℕ) (command : Command) (id : Option ℕ) → ((b row : ℕ) → IsOldestRow ws b row → row < h.settings.rows) → IsChosen h ws log clock command id → IsTrue (is_in_range h command)
+row_inside h ws log clock (Act bank row) id inside chosen = let low = inside _ row chosen.0 in grind (arith, nat_tests)
+row_inside h ws log clock (Rd bank column) id inside chosen = refl
+row_inside h ws log clock (Wr bank column) id inside chosen = refl
+row_inside h ws log clock (PrePb bank) id inside chosen = refl
+row_inside h ws log clock (PreSb address) id inside chosen = refl
+row_inside h ws log clock PreAb id inside chosen = refl
+row_inside h ws log clock RefAb id inside chosen = refl
+row_inside h ws log clock (RefSb address) id inside chosen = refl
+row_inside h ws log clock RfmAb id inside chosen = refl
+row_inside h ws log clock (RfmSb address) id inside chosen = refl
+row_inside h ws log clock (Mrw write) id inside chosen = refl
+row_inside h ws log clock Ecs id inside chosen = refl
+row_inside h ws log clock Nop id inside chosen = refl
+
+resting : (h : Header) (old : Coupled) (controller : Controller) (pending : Option Pending) (offered : List Request) (idle : ℕ) (steps : List Step)
+    → Keeps old h offered idle steps → ControllerFor h controller offered idle (controller_steps steps) → option_map step_of pending ≡ None
+    → Keeps (record { controller = controller; device = old.device; pending = pending; alert = old.alert }) h offered idle steps
+resting h old controller pending offered idle steps s t e = record {
+  controller = subst (λ (p : Option NumberedStep). ControllerFor h controller offered idle (with_pending p (controller_steps steps))) (sym e) t;
+  device = s.device;
+  alert = s.alert;
+  due = subst (λ (p : Option NumberedStep). IsDueIfAny h (log_of steps) p) (sym e) tt;
+}
+
+pub after_turn : (turn : Turn) (from until : ℕ) (finished : Bool) (h : Header) (old : Coupled) (controller : Controller) (pending : Option Pending) (offered : List Request) (idle : ℕ) (steps : List Step)
+    → Laws → option_map step_of old.pending ≡ None → Keeps old h offered idle steps
+    → ControllerAfter turn from until finished h controller offered idle (controller_steps steps) → option_map step_of pending ≡ issued_in turn
+    → After turn from until finished h (record { controller = controller; device = old.device; pending = pending; alert = old.alert }) offered idle steps
+unfolding StandsFor controller_of pending_of
+after_turn (Issue clock command id) from until finished h old controller pending offered idle steps laws none s t e =
+    let log = places_are steps in
+    let newest = laws.newest h controller offered idle _ (controller_steps steps) t.stands in
+    let near = laws.near h controller offered idle _ t.stands in
+    let due : IsDue h (log_of steps) (issued_as clock command id) = record {
+      in_time = omega (arith, newest, near);
+      row = row_inside h (waiting h offered (controller_steps steps)) (places (controller_steps steps)) clock command (number_of id)
+          (λ b row oldest. laws.inside h old.controller offered idle (controller_steps steps) b row (unpended old h offered idle steps none s) oldest) t.chosen;
+      rules = subst (λ (l : Log). broken h clock command l ≡ None) log t.right;
+    } in
+    record {
+      late = t.late;
+      due = due;
+      chosen = subst (λ (l : Log). IsChosen h (waiting h offered (controller_steps steps)) l clock command (number_of id)) log t.chosen;
+      prompt = subst (λ (l : Log). IsPrompt h from l clock command) log t.prompt;
+      busy = λ rest. let b = t.busy rest in (b.0, subst (λ (l : Log). all_closed l ≡ false) log b.1);
+      stands = record {
+        controller = subst (λ (p : Option NumberedStep). ControllerFor h controller offered idle (with_pending p (controller_steps steps))) (sym e) t.stands;
+        device = s.device;
+        alert = s.alert;
+        due = subst (λ (p : Option NumberedStep). IsDueIfAny h (log_of steps) p) (sym e) due;
+      };
+      is_pending = e;
+    }
+after_turn Idle from until finished h old controller pending offered idle steps laws none s t e =
+    (record { rest = t.0.rest; now = t.0.now; stands = resting h old controller pending offered idle steps s t.0.stands e; none_pending = e }, t.1)
+after_turn Done from until finished h old controller pending offered idle steps laws none s t e = (
+  record { rest = t.0.rest; now = t.0.now; stands = resting h old controller pending offered idle steps s t.0.stands e; none_pending = e },
+  t.1,
+  subst (λ (l : Log). broken_at_end h (max from until) l ≡ None) (places_are steps) t.2,
+)
+
+-- ---- A delivery
+
+pub pending_here : (o : Option Pending) (r : Option (Bor Pending)) (b : Bor Pending) → option_copied r ≡ o → r ≡ Some b → o ≡ Some b.now
+pending_here o r b value e = sym value ∙ ap (λ (x : Option (Bor Pending)). option_copied x) e
+
+-- the pending step is that of what is pending
+pub same_step : (o : Option Pending) (p : Pending) (step : NumberedStep) → o ≡ Some p → option_map step_of o ≡ Some step → step_of p ≡ step
+same_step o p step here e = let both : Some (step_of p) ≡ Some step = sym (ap (λ (x : Option Pending). option_map step_of x) here) ∙ e in cc
+
+-- what is pending may be given, with bytes where it is a WR
+pub may_follow : (c : Coupled) (h : Header) (offered : List Request) (idle : ℕ) (steps : List Step) (p : Pending) (words : Words) (bytes : Option (List ℕ))
+    → Keeps c h offered idle steps → c.pending ≡ Some p → IsAwaited (option_map step_of c.pending) bytes → Spells p.command words → IsInRange p.command
+    → MayFollow h p.clock p.command words bytes (device_steps steps)
+may_follow c h offered idle steps p words bytes s here awaited spelled in_range =
+    let due : IsDue h (log_of steps) (step_of p) = subst (λ (o : Option Pending). IsDueIfAny h (log_of steps) (option_map step_of o)) here s.due in
+    let same = same_step c.pending p awaited.step here awaited.is_pending in
+    record {
+      spelled = spelled;
+      given = record {
+        legal = record {
+          in_time = due.in_time;
+          in_range = in_range;
+          row = due.row;
+          rules = subst (λ (l : Log). broken h p.clock p.command l ≡ None) (sym (device_log_is steps)) due.rules;
+        };
+        with_bytes = subst (λ (step : NumberedStep). is_some bytes ≡ is_wr step.issued.command) (sym same) awaited.with_bytes;
+      };
+    }
+
+pub after_delivery : (c : Coupled) (h : Header) (offered : List Request) (idle : ℕ) (steps : List Step) (p : Pending) (bytes : Option (List ℕ)) (device : Device) (raised : Bool)
+    → Keeps c h offered idle steps → c.pending ≡ Some p
+    → DeviceFor device h (device_steps (delivered (step_of p) bytes ∷ steps)) → raised ≡ is_some (alert h (device_log (device_steps (delivered (step_of p) bytes ∷ steps))))
+    → Keeps (record { controller = c.controller; device = device; pending = None; alert = raised }) h offered idle (delivered (step_of p) bytes ∷ steps)
+after_delivery c h offered idle steps p bytes device raised s here given shown = record {
+  controller = subst (λ (o : Option Pending). ControllerFor h c.controller offered idle (with_pending (option_map step_of o) (controller_steps steps))) here s.controller;
+  device = given;
+  alert = shown ∙ ap (λ (l : Log). is_some (alert h l)) (device_log_is (delivered (step_of p) bytes ∷ steps));
+  due = tt;
+}
