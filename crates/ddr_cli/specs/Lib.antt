@@ -1,3 +1,4 @@
 pub mod AtEnd
 pub mod Fault
+pub mod Shown
 pub mod Words

@@ -1,9 +1,15 @@
-//! The program: it reads a job on standard input, and writes its report on standard output.
+//! The program: it reads a job or a report on standard input, and writes a report, a verdict or its commands on standard
+//! output.
 #![tactic(auto)]
 
 mod at_end;
+#[cfg(test)]
+mod audit_tests;
 mod fault;
+mod report_words;
 mod run;
+mod showing;
+mod shown;
 #[cfg(test)]
 mod tests;
 

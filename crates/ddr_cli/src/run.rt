@@ -5,8 +5,11 @@ ghost use Rattle.ddr_text.specs.declared.lines.TraceLine.{TraceLine};
 ghost use Rattle.speed_bin.specs.declared.header.Header.{Header};
 ghost use Rattle.trace_replay.specs.Job.{IsJobOf};
 ghost use Rattle.trace_replay.specs.Replay.{Answers};
-ghost use Rattle.ddr_cli.specs.Words.{IsReplay};
+ghost use Rattle.log_auditor.specs.Findings.{Answers as AuditAnswers};
+ghost use Rattle.ddr_cli.specs.Shown.{ShowAnswers};
+ghost use Rattle.ddr_cli.specs.Words.{IsAudit, IsListed, IsReplay, IsShow};
 
+use crate::report_words::on_report;
 use ddr_io::{Sink, Source, Status};
 use std::alloc::Global;
 use trace_replay::replay;
@@ -19,7 +22,7 @@ pub fn run<S: Source, K: Sink>(
     source: &mut S,
     sink: &mut K,
 ) -> Status
-    ensures usage { (result ≡ Status.Usage) ↔ (¬ IsReplay words.now) }
+    ensures usage { (result ≡ Status.Usage) ↔ (¬ IsListed words.now) }
     ensures unread { result ≡ Status.Usage → source.new ≡ source.old }
     ensures unwritten { result ≡ Status.Usage → sink.new ≡ sink.old }
 
@@ -30,13 +33,19 @@ pub fn run<S: Source, K: Sink>(
     ensures complete { (bytes : List ℕ) (left : Option (List ℕ)) (h : Header) (text : List ℕ) (trace : List TraceLine) → IsReplay words.now
         → S.left source.old ≡ Some bytes → IsJobOf (Some bytes) left h text trace None → result ≢ Status.Refused }
 
+    // With the word `audit`: the verdict on the report in the bytes that were read.
+    ensures audited { IsAudit words.now → AuditAnswers result (S.left source.old) (S.left source.new) (K.written sink.old) (K.written sink.new) }
+
+    // With the word `show`: its commands in readable form.
+    ensures shown { IsShow words.now → ShowAnswers result (S.left source.old) (S.left source.new) (K.written sink.old) (K.written sink.new) }
+
     // A fault is told where it was counted.
     ensures read { result ≡ Status.ReadFault → Rose (S.faults source.old) (S.faults source.new) }
     ensures write { result ≡ Status.WriteFault → Rose (K.faults sink.old) (K.faults sink.new) }
-    ensures broken { result ≢ Status.Broken }
+    ensures broken { result ≡ Status.Broken → IsAudit words.now }
 {
     match words {
         [word] if word.as_str() == "replay" => replay(alloc, source, sink),
-        _ => Status::Usage,
+        _ => on_report(alloc, words, source, sink),
     }
 }

@@ -28,7 +28,8 @@ fn other_words(rt: HostRuntime) -> Result<(), Fail> {
         ["replay", "now", ""],
         ["Replay", "", ""],
         ["gen", "01", "5"],
-        ["audit", "", ""],
+        ["audit", "show", ""],
+        ["Show", "", ""],
         ["--help", "", ""],
     ];
     for row in rows {

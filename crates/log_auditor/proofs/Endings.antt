@@ -1,0 +1,175 @@
+-- How an audit ends, by the bytes.
+use Rattle.std.proofs.Common.{◌≡◌, ◌∙◌, ◌<◌, ℕ, Option, Some, None, List, [], ◌∷◌, Result, Ok, Err, IfOk, ◌++◌, length, take, refl, sym, ap, subst, arith}
+use Rattle.std.specs.Io.KnownBytes.{Appends}
+use Rattle.ddr_io.specs.Faults.{Rose}
+use Rattle.ddr_io.specs.Line.{next_bytes}
+use Rattle.ddr_io.specs.Reading.{Reading as ReaderOfLines}
+use Rattle.ddr_io.specs.declared.line_reader.Line.TheVariants.{Text as TextAnswer}
+use Rattle.ddr_io.specs.Sink.{AppendsPrefix}
+use Rattle.ddr_io.specs.declared.status.Status.{Status}
+use Rattle.ddr_io.specs.declared.status.Status.TheVariants as status
+use Rattle.std.proofs.KnownBytes.{Appends-nil}
+use Rattle.ddr_text.specs.Opening.{IsOpening, Accepts, Refuses, opening_of, parts_of}
+use Rattle.ddr_text.specs.Spelling.{report_text, spelled}
+use Rattle.ddr_text.specs.Sound.{Refusal}
+use Rattle.ddr_text.specs.declared.lines.ReportLine.{ReportLine}
+use Rattle.ddr_text.specs.declared.opening.Opening.{Opening}
+use Rattle.ddr_text.specs.declared.opening.Opening.TheVariants.{Accepted, Refused as RefusedOpening}
+use Rattle.speed_bin.specs.declared.header.Header.{Header}
+use Rattle.log_auditor.specs.Auditing.{shape_of}
+use Rattle.log_auditor.specs.Findings.{Answers, Finds, ReadsAll, breach_of, fine_or, finding_text, found_behind, found_in, refused_or, status_of}
+use Rattle.log_auditor.specs.Progress.{Audited, FindsBehind, IsWritten, LeftBehind, Reads, ReadsAllOf, StopCause, stop_status, with_lines}
+use Rattle.log_auditor.specs.Reading.{IsStep, Lines, Place, lines_in, lines_left, refusal_at, with_line}
+use Rattle.log_auditor.specs.declared.audit_loop.Stop.{Stop}
+use Rattle.log_auditor.specs.declared.audit_loop.Stop.TheVariants.{ReadFault, OutOfMemory}
+use Rattle.log_auditor.specs.declared.auditor.Auditor.{Auditor}
+use Rattle.log_auditor.specs.declared.finding.Finding.{Finding}
+use Rattle.log_auditor.specs.declared.finding.Finding.TheVariants.{Fine, Broken, Refused}
+use Rattle.log_auditor.specs.declared.report_reader.Next.TheVariants.{Line, End, Refused as RefusedNext, Failed}
+use Rattle.log_auditor.specs.declared.report_reader.Stage.TheVariants.{Body}
+use Rattle.log_auditor.proofs.Lines.{with_lines_end, with_lines_next, with_lines_refusal}
+
+-- ---- Lines behind an opening
+
+pub left_next : (h : Header) (start now after : Option (List ℕ)) (lines : List ReportLine) (line : ReportLine) (old new : Place) → LeftBehind h start lines old now → IsStep old new now after (Line line) → LeftBehind h start (lines ++ line ∷ []) new after
+left_next h None now after lines line old new behind step = tt
+left_next h (Some bytes) None after lines line old new behind step = absurd behind
+left_next h (Some bytes) (Some left) after lines line old new behind step =
+    subst (λ (o : Option (List ℕ)). LeftBehind h (Some bytes) (lines ++ line ∷ []) new o) (sym step.1)
+    (behind ∙ ap (with_lines lines) step.2 ∙ with_lines_next lines line (lines_left new step.0))
+
+pub found_end : (h : Header) (start now after : Option (List ℕ)) (lines : List ReportLine) (old new : Place) (finding : Finding) → LeftBehind h start lines old now → IsStep old new now after End → finding ≡ fine_or (breach_of h lines) → FindsBehind h start finding
+found_end h None now after lines old new finding behind step is = tt
+found_end h (Some bytes) None after lines old new finding behind step is = absurd behind
+found_end h (Some bytes) (Some left) after lines old new finding behind step is =
+    ap (found_behind h) (behind ∙ ap (with_lines lines) step.1)
+    ∙ ap (λ r. refused_or r (fine_or (breach_of h (with_lines lines (record { lines = []; refusal = None })).lines))) (with_lines_refusal lines (record { lines = []; refusal = None }))
+    ∙ ap (λ ls. fine_or (breach_of h ls)) (with_lines_end lines (record { lines = []; refusal = None }) refl)
+    ∙ sym is
+
+pub found_refused : (h : Header) (start now after : Option (List ℕ)) (lines : List ReportLine) (old new : Place) (number reason : ℕ) → LeftBehind h start lines old now → IsStep old new now after (RefusedNext number reason) → FindsBehind h start (Refused number reason)
+found_refused h None now after lines old new number reason behind step = tt
+found_refused h (Some bytes) None after lines old new number reason behind step = absurd behind
+found_refused h (Some bytes) (Some left) after lines old new number reason behind step =
+    ap (found_behind h) (behind ∙ ap (with_lines lines) step)
+    ∙ ap (λ r. refused_or r (fine_or (breach_of h (with_lines lines (record { lines = []; refusal = refusal_at number (Some reason) })).lines))) (with_lines_refusal lines (record { lines = []; refusal = refusal_at number (Some reason) }))
+
+-- at the end nothing is left
+nothing_left : (held left : List ℕ) → held ++ left ≡ [] → left ≡ []
+nothing_left [] left e = e
+nothing_left (x ∷ held) left e = absurd cc
+
+empty_left : (held : List ℕ) (left : Option (List ℕ)) → next_bytes held left ≡ Some [] → left ≡ Some []
+empty_left held None e = absurd cc
+empty_left held (Some xs) e = let same : held ++ xs ≡ [] = cc in ap Some (nothing_left held xs same)
+
+all_of : (old new : Option (List ℕ)) (finding : Finding) → ReadsAll old new → ReadsAllOf old new finding
+all_of old new Fine all = all
+all_of old new (Broken line rule) all = all
+all_of old new (Refused line reason) all = tt
+
+-- where the bytes at the start are known, all were read
+pub all_read : (h : Header) (source_old source_new now : Option (List ℕ)) (kept held : List ℕ) (lines : List ReportLine) (place new : Place) (finding : Finding) → LeftBehind h (next_bytes kept source_old) lines place now → IsStep place new now (next_bytes held source_new) End → ReadsAllOf source_old source_new finding
+all_read h None source_new now kept held lines place new finding behind step = all_of None source_new finding tt
+all_read h (Some bytes) source_new None kept held lines place new finding behind step = absurd behind
+all_read h (Some bytes) source_new (Some left) kept held lines place new finding behind step = all_of (Some bytes) source_new finding (empty_left held source_new step.0)
+
+-- ---- The opening
+
+next_empty : (left : Option (List ℕ)) → next_bytes [] left ≡ left
+next_empty None = refl
+next_empty (Some xs) = refl
+
+pub finds_accepted : (old mid : Option (List ℕ)) (h : Header) (text : List ℕ) (finding : Finding) → IsOpening (next_bytes [] old) mid (Accepted h text) → FindsBehind h mid finding → Finds old finding
+finds_accepted None mid h text finding opened found = tt
+finds_accepted (Some bytes) mid h text finding opened found = ap found_in opened.1 ∙ subst (λ (o : Option (List ℕ)). FindsBehind h o finding) opened.2 found
+
+pub finds_refused : (old mid : Option (List ℕ)) (reason : ℕ) → IsOpening (next_bytes [] old) mid (RefusedOpening reason) → Finds old (Refused 0 reason)
+finds_refused None mid reason opened = tt
+finds_refused (Some bytes) mid reason opened = ap found_in opened
+
+reads_more : (old mid new : Option (List ℕ)) (bytes : List ℕ) → mid ≡ Some bytes → ReadsAll mid new → ReadsAll old new
+reads_more None mid new bytes e all = tt
+reads_more (Some xs) None new bytes e all = absurd cc
+reads_more (Some xs) (Some ys) new bytes e all = all
+
+known_source : (held : List ℕ) (left : Option (List ℕ)) (rest : List ℕ) → next_bytes held left ≡ Some rest → (bytes : List ℕ) × (left ≡ Some bytes)
+known_source held None rest e = absurd cc
+known_source held (Some bytes) rest e = (bytes, refl)
+
+reads_from : (old mid new : Option (List ℕ)) (held : List ℕ) (h : Header) (text : List ℕ) → IsOpening (next_bytes [] old) (next_bytes held mid) (Accepted h text) → ReadsAll mid new → ReadsAll old new
+reads_from None mid new held h text opened all = tt
+reads_from (Some bytes) mid new held h text opened all = let k = known_source held mid opened.0 opened.2 in reads_more (Some bytes) mid new k.0 k.1 all
+
+pub reads_accepted : (old mid new : Option (List ℕ)) (held : List ℕ) (h : Header) (text : List ℕ) (finding : Finding) → IsOpening (next_bytes [] old) (next_bytes held mid) (Accepted h text) → ReadsAllOf mid new finding → ReadsAllOf old new finding
+reads_accepted old mid new held h text Fine opened all = reads_from old mid new held h text opened all
+reads_accepted old mid new held h text (Broken line rule) opened all = reads_from old mid new held h text opened all
+reads_accepted old mid new held h text (Refused line reason) opened all = tt
+
+-- ---- What is written
+
+pub is_written : (answer : Status) (finding : Finding) (before after : Option (List ℕ)) → answer ≡ status_of finding → Appends before after (finding_text finding) → IsWritten answer finding before after
+is_written answer Fine before after is written = subst (λ (s : Status). IsWritten s Fine before after) (sym is) (refl, written)
+is_written answer (Broken line rule) before after is written = subst (λ (s : Status). IsWritten s (Broken line rule) before after) (sym is) (refl, written)
+is_written answer (Refused line reason) before after is written = subst (λ (s : Status). IsWritten s (Refused line reason) before after) (sym is) (refl, written)
+
+-- the line of a finding is not empty
+pub some_text : (finding : Finding) → 0 < length (finding_text finding)
+unfolding finding_text spelled report_text
+some_text Fine = omega arith
+some_text (Broken line rule) = omega arith
+some_text (Refused line reason) = omega arith
+
+no_fault : (f : Finding) → status.ReadFault ≡ status_of f → ⊥
+no_fault Fine e = cc
+no_fault (Broken line rule) e = cc
+no_fault (Refused line reason) e = cc
+
+no_usage : (f : Finding) → status.Usage ≡ status_of f → ⊥
+no_usage Fine e = cc
+no_usage (Broken line rule) e = cc
+no_usage (Refused line reason) e = cc
+
+answered : (answer : Status) (finding : Finding) (old new before after : Option (List ℕ)) → Finds old finding → ReadsAllOf old new finding → IsWritten answer finding before after → Answers answer old new before after
+answered status.Ok Fine old new before after found all written = ((Fine, found, refl, written.1), all)
+answered status.Ok (Broken line rule) old new before after found all written = absurd (let no = written.0 in cc)
+answered status.Ok (Refused line reason) old new before after found all written = absurd (let no = written.0 in cc)
+answered status.Broken Fine old new before after found all written = absurd (let no = written.0 in cc)
+answered status.Broken (Broken line rule) old new before after found all written = ((Broken line rule, found, refl, written.1), all)
+answered status.Broken (Refused line reason) old new before after found all written = absurd (let no = written.0 in cc)
+answered status.Refused Fine old new before after found all written = absurd (let no = written.0 in cc)
+answered status.Refused (Broken line rule) old new before after found all written = absurd (let no = written.0 in cc)
+answered status.Refused (Refused line reason) old new before after found all written = (Refused line reason, found, refl, written.1)
+answered status.ReadFault finding old new before after found all written = absurd (no_fault finding written.0)
+answered status.WriteFault finding old new before after found all written = (finding, found, written)
+answered status.OutOfMemory finding old new before after found all written = (finding, found, written)
+answered status.Usage finding old new before after found all written = absurd (no_usage finding written.0)
+
+pub answers_found : (answer : Status) (finding : Finding) (old new before after : Option (List ℕ)) → Finds old finding → ReadsAllOf old new finding → IsWritten answer finding before after → Answers answer old new before after
+answers_found = answered
+
+-- nothing is written where the report was not read
+any_finding : (old : Option (List ℕ)) → (finding : Finding) × Finds old finding
+any_finding None = (Fine, tt)
+any_finding (Some bytes) = (found_in (opening_of bytes), refl)
+
+pub answers_stopped : (stop : Stop) (old new before : Option (List ℕ)) → Answers (stop_status stop) old new before before
+answers_stopped ReadFault old new before = let f = any_finding old in (f.0, f.1, (0, omega arith, Appends-nil before))
+answers_stopped OutOfMemory old new before = let f = any_finding old in (f.0, f.1, (0, omega arith, Appends-nil before))
+
+pub map_ok : {A E : Type 0} (r : Result A E) (P Q : A → Type 0) → ((x : A) → P x → Q x) → IfOk r P → IfOk r Q
+map_ok (Ok x) P Q f h = f x h
+map_ok (Err e) P Q f h = tt
+
+pub opened_at : (reader : ReaderOfLines) (left mid : Option (List ℕ)) (opening other : Opening) → reader ≡ record { held = []; line = []; last = TextAnswer } → opening ≡ other → IsOpening (next_bytes reader.held left) mid opening → IsOpening (next_bytes [] left) mid other
+opened_at reader left mid opening other first is opened = subst (λ (o : Opening). IsOpening (next_bytes [] left) mid o) is (subst (λ (r : ReaderOfLines). IsOpening (next_bytes r.held left) mid opening) first opened)
+
+pub stopped_read : (stop : Stop) (before after : ℕ) → StopCause before after stop → stop_status stop ≡ status.ReadFault → Rose before after
+stopped_read ReadFault before after cause e = cause
+stopped_read OutOfMemory before after cause e = absurd cc
+
+pub written_no_read : (answer : Status) (finding : Finding) (before after : Option (List ℕ)) → IsWritten answer finding before after → answer ≡ status.ReadFault → ⊥
+written_no_read answer finding before after written e = let w = subst (λ (s : Status). IsWritten s finding before after) e written in no_fault finding w.0
+
+pub written_no_usage : (answer : Status) (finding : Finding) (before after : Option (List ℕ)) → IsWritten answer finding before after → answer ≡ status.Usage → ⊥
+written_no_usage answer finding before after written e = let w = subst (λ (s : Status). IsWritten s finding before after) e written in no_usage finding w.0

@@ -1,0 +1,11 @@
+pub mod AnyBelow
+pub mod Auditions
+pub mod Banks
+pub mod Counting
+pub mod Endings
+pub mod Judging
+pub mod Lines
+pub mod Parts
+pub mod Readings
+pub mod Taking
+pub mod Wanting

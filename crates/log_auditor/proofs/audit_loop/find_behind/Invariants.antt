@@ -1,0 +1,15 @@
+use Rattle.std.proofs.Common.{◌≡◌, ℕ, ◌+◌, ◌-◌, ◌≤◌, List}
+use Rattle.ddr_io.specs.Line.{next_bytes}
+use Rattle.ddr_text.specs.declared.lines.ReportLine.{ReportLine}
+use Rattle.log_auditor.specs.Progress.{Reads}
+use Rattle.log_auditor.specs.declared.report_reader.TheConstants.{MOST_LINES}
+use Rattle.log_auditor.proofs.audit_loop.find_behind.Given as goal
+
+abbrev pub invariant-loop-line : goal.invariant-loop-line
+invariant-loop-line g l = record {
+  read : (lines : List ReportLine) × Reads l.header (next_bytes l.fn.reader.held (g.S.Source.left l.fn.source)) l.finding l.auditor l.lines (next_bytes l.lines.reader.held (g.S.Source.left l.source)) lines;
+  later : g.S.Source.faults l.fn.source ≤ g.S.Source.faults l.source;
+}
+
+abbrev pub decreases-loop-line : goal.decreases-loop-line
+decreases-loop-line g l = MOST_LINES + 1 - l.lines.number

@@ -1,0 +1,26 @@
+use Rattle.std.proofs.Common.{◌≡◌, ◌∙◌, refl, sym}
+use Rattle.log_auditor.specs.Findings.{log_of}
+use Rattle.log_auditor.proofs.Auditions.{audited_broken, audited_other, audited_place, only_fine, place_open}
+use Rattle.log_auditor.proofs.audit_loop.judge.Goals as goal
+
+pub returns-then-not-is_fine : goal.returns-then-not-is_fine
+returns-then-not-is_fine c = λ h stage after lines audited inside stands.
+    audited_broken h stage after c.args.number c.args.finding c.args.auditor.now lines c.args.line.now audited stands (sym c.is_fine.ensures ∙ c.if-not-is_fine.true)
+
+pub returns-then-not-is_place : goal.returns-then-not-is_place
+returns-then-not-is_place c = λ h stage after lines audited inside stands.
+    audited_other h stage after c.args.number c.args.finding c.args.auditor.now lines c.args.line.now audited stands (sym c.is_place.ensures ∙ c.if-not-is_place.true)
+
+pub returns-in-Fine : goal.returns-in-Fine
+returns-in-Fine c = λ h stage after lines audited inside stands.
+    let fine = sym c.is_fine.ensures ∙ c.if-not-is_fine.false in
+    let place = sym c.is_place.ensures ∙ c.if-not-is_place.false in
+    audited_place h stage after c.args.number c.args.finding c.args.auditor.now c.take.new.self lines c.args.line.now _ _ audited stands fine place
+    (c.in-Fine.ensures.taken h (log_of lines) (audited.stands (only_fine c.args.finding fine) (place_open stage after c.args.line.now stands place)) inside) refl
+
+pub returns-in-Breaks : goal.returns-in-Breaks
+returns-in-Breaks c = λ h stage after lines audited inside stands.
+    let fine = sym c.is_fine.ensures ∙ c.if-not-is_fine.false in
+    let place = sym c.is_place.ensures ∙ c.if-not-is_place.false in
+    audited_place h stage after c.args.number c.args.finding c.args.auditor.now c.take.new.self lines c.args.line.now _ _ audited stands fine place
+    (c.in-Breaks.ensures.taken h (log_of lines) (audited.stands (only_fine c.args.finding fine) (place_open stage after c.args.line.now stands place)) inside) refl

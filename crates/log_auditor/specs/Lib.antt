@@ -1,0 +1,7 @@
+pub mod Activations
+pub mod Auditing
+pub mod Findings
+pub mod Groups
+pub mod Ledger
+pub mod Progress
+pub mod Reading

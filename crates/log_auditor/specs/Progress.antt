@@ -1,0 +1,78 @@
+-- How far an audit has come: the lines that it has read, and what it found in them.
+use Rattle.std.specs.Prelude.{ℕ, suc, ◌≡◌, ⊤, false, List, [], ◌∷◌, length, Some, None, IfSome}
+use Rattle.std.specs.declared.option.Option.{Option}
+use Rattle.ddr_io.specs.Faults.{Rose}
+use Rattle.ddr_io.specs.Sink.{AppendsPrefix}
+use Rattle.ddr_io.specs.declared.line_reader.Line.TheVariants.{Text as TextAnswer}
+use Rattle.ddr_io.specs.declared.status.Status.{Status}
+use Rattle.ddr_io.specs.declared.status.Status.TheVariants as status
+use Rattle.ddr_text.specs.Opening.{parts_of}
+use Rattle.ddr_text.specs.declared.lines.ReportLine.{ReportLine}
+use Rattle.speed_bin.specs.declared.header.Header.{Header}
+use Rattle.std.specs.Io.KnownBytes.{Appends}
+use Rattle.log_auditor.specs.Auditing.{StandsFor, shape_of}
+use Rattle.log_auditor.specs.Findings.{breach_of, end_of, fine_or, found_behind, log_of, finding_text, status_of, ReadsAll}
+use Rattle.log_auditor.specs.Reading.{Lines, Place, is_whole, lines_in, lines_left, with_line}
+use Rattle.log_auditor.specs.declared.audit_loop.Stop.{Stop}
+use Rattle.log_auditor.specs.declared.audit_loop.Stop.TheVariants.{ReadFault, OutOfMemory}
+use Rattle.log_auditor.specs.declared.auditor.Auditor.{Auditor}
+use Rattle.log_auditor.specs.declared.finding.Finding.{Finding}
+use Rattle.log_auditor.specs.declared.finding.Finding.TheVariants.{Fine, Broken, Refused}
+use Rattle.log_auditor.specs.declared.report_reader.Stage.{Stage}
+use Rattle.log_auditor.specs.declared.report_reader.Stage.TheVariants.{Body}
+
+-- The auditor took these lines, behind which a line with this number may stand at this stage, and found this. It took no
+-- more of them once it found a rule broken.
+pub record Audited (h : Header) (stage : Stage) (number : ℕ) (finding : Finding) (auditor : Auditor) (lines : List ReportLine) : Type 0 where
+  pub numbered : number ≡ suc (length lines)
+  pub going_on : is_whole stage ≡ false → end_of lines ≡ None
+  pub found : finding ≡ fine_or (breach_of h lines)
+  pub stands : finding ≡ Fine → is_whole stage ≡ false → StandsFor auditor h (log_of lines)
+
+-- ---- The lines of known bytes
+
+-- these lines in front
+abbrev pub with_lines : List ReportLine → Lines → Lines
+with_lines [] rest = rest
+with_lines (line ∷ lines) rest = with_line line (with_lines lines rest)
+
+-- the lines of the bytes are these, and then those that are left
+abbrev pub LeftBehind : Header → Option (List ℕ) → List ReportLine → Place → Option (List ℕ) → Type 0
+LeftBehind h None lines it left = ⊤
+LeftBehind h (Some bytes) lines it None = ⊥
+LeftBehind h (Some bytes) lines it (Some left) = lines_in (shape_of h) Body 1 (parts_of bytes) ≡ with_lines lines (lines_left it left)
+
+-- these lines were read behind the opening, and audited
+pub record Reads (h : Header) (start : Option (List ℕ)) (finding : Finding) (auditor : Auditor) (it : Place) (left : Option (List ℕ)) (lines : List ReportLine) : Type 0 where
+  pub audited : Audited h it.stage it.number finding auditor lines
+  pub behind : LeftBehind h start lines it left
+  pub shape : it.shape ≡ shape_of h
+  pub last : it.reader.last ≡ TextAnswer
+
+-- what is found behind an opening
+abbrev pub FindsBehind : Header → Option (List ℕ) → Finding → Type 0
+FindsBehind h None finding = ⊤
+FindsBehind h (Some bytes) finding = found_behind h (lines_in (shape_of h) Body 1 (parts_of bytes)) ≡ finding
+
+-- nothing is left, unless a line is refused
+abbrev pub ReadsAllOf : Option (List ℕ) → Option (List ℕ) → Finding → Type 0
+ReadsAllOf old new Fine = ReadsAll old new
+ReadsAllOf old new (Broken line rule) = ReadsAll old new
+ReadsAllOf old new (Refused line reason) = ⊤
+
+-- ---- Stops
+
+abbrev pub stop_status : Stop → Status
+stop_status ReadFault = status.ReadFault
+stop_status OutOfMemory = status.OutOfMemory
+
+-- a fault of the source was counted
+abbrev pub StopCause : ℕ → ℕ → Stop → Type 0
+StopCause before after ReadFault = Rose before after
+StopCause before after OutOfMemory = ⊤
+
+-- the line of a finding was written, or a prefix of it
+abbrev pub IsWritten : Status → Finding → Option (List ℕ) → Option (List ℕ) → Type 0
+IsWritten status.WriteFault finding before after = AppendsPrefix before after (finding_text finding)
+IsWritten status.OutOfMemory finding before after = AppendsPrefix before after (finding_text finding)
+IsWritten answer finding before after = (answer ≡ status_of finding) × Appends before after (finding_text finding)

@@ -1,0 +1,149 @@
+//! The audit of a report, from its bytes to one line.
+ghost use Rattle.std.specs.Prelude.{ℕ, ◌≡◌, ◌≢◌, ◌+◌, ◌≤◌, ◌++◌, ◌∷◌, [], IfOk, IfErr, List, Some};
+ghost use Rattle.ddr_io.specs.Faults.{Rose};
+ghost use Rattle.ddr_io.specs.Line.{next_bytes};
+ghost use Rattle.ddr_text.specs.AcceptedReport.{IsReportLine};
+ghost use Rattle.ddr_text.specs.declared.lines.ReportLine.{ReportLine as AnyReportLine};
+ghost use Rattle.speed_bin.specs.Header.{IsAccepted};
+ghost use Rattle.speed_bin.specs.declared.header.Header.{Header as AnyHeader};
+ghost use Rattle.log_auditor.specs.Auditing.{shape_of};
+ghost use Rattle.log_auditor.specs.Findings.{Answers, Finds, is_place};
+ghost use Rattle.log_auditor.specs.Progress.{Audited, FindsBehind, IsWritten, ReadsAllOf, StopCause, stop_status};
+ghost use Rattle.log_auditor.specs.Reading.{stage_after};
+ghost use Rattle.log_auditor.specs.declared.report_reader.Stage.{Stage as AnyStage};
+
+use crate::finding::Finding;
+use crate::report_reader::{Next, ReportReader};
+use crate::{Auditor, Verdict};
+use arrayvec::ArrayVec;
+use ddr_io::{Line, LineReader, Put, Sink, Source, Status, put_all};
+use ddr_text::{Opening, ReportLine, open_job};
+use speed_bin::Header;
+use std::alloc::Global;
+
+/// Reads a report, and writes one line: `A ok` where it is well formed and its log satisfies the rules, `A broken` with
+/// the first line at which a rule fails and the least rule there, or `X` with the first line that is not well formed and
+/// the reason. A line that is not well formed comes before a broken rule, wherever it stands.
+pub fn audit<S: Source, K: Sink>(alloc: Global, source: &mut S, sink: &mut K) -> Status
+    ensures answer { Answers result (S.left source.old) (S.left source.new) (K.written sink.old) (K.written sink.new) }
+    ensures read { result ≡ Status.ReadFault → Rose (S.faults source.old) (S.faults source.new) }
+    ensures write { result ≡ Status.WriteFault → Rose (K.faults sink.old) (K.faults sink.new) }
+    ensures usage { result ≢ Status.Usage }
+{
+    match find(alloc, source) {
+        Ok(finding) => write_finding(finding, sink),
+        Err(stop) => stop.status(),
+    }
+}
+
+/// What ends an audit before it has read the report.
+#[derive(Clone, Copy, Debug, PartialEq, Eq)]
+enum Stop {
+    ReadFault,
+    OutOfMemory,
+}
+
+impl Stop {
+    fn status(self) -> Status
+        ensures { result ≡ stop_status self }
+    {
+        match self {
+            Stop::ReadFault => Status::ReadFault,
+            Stop::OutOfMemory => Status::OutOfMemory,
+        }
+    }
+}
+
+// Writes the one line.
+fn write_finding<K: Sink>(finding: Finding, sink: &mut K) -> Status
+    ensures written { IsWritten result finding (K.written sink.old) (K.written sink.new) }
+    ensures write { result ≡ Status.WriteFault → Rose (K.faults sink.old) (K.faults sink.new) }
+{
+    let mut text = ArrayVec::new();
+    finding.spell(&mut text);
+    match put_all(sink, &text) {
+        Put::Took(_) => finding.status(),
+        Put::Failed => Status::WriteFault,
+        Put::NoMemory => Status::OutOfMemory,
+    }
+}
+
+// Reads the whole report.
+fn find<S: Source>(alloc: Global, source: &mut S) -> Result<Finding, Stop>
+    ensures found { IfOk result (Finds (S.left source.old)) }
+    ensures all { IfOk result (ReadsAllOf (S.left source.old) (S.left source.new)) }
+    ensures cause { IfErr result (StopCause (S.faults source.old) (S.faults source.new)) }
+{
+    let mut reader = LineReader::new();
+    match open_job(alloc, &mut reader, source) {
+        Ok(opening) => match opening {
+            Opening::Accepted(header, _) => find_behind(alloc, &header, reader, source),
+            Opening::Refused(reason) => Ok(Finding::Refused(0, reason)),
+            Opening::Failed => Err(Stop::ReadFault),
+        },
+        Err(_) => Err(Stop::OutOfMemory),
+    }
+}
+
+// Reads the lines behind the opening.
+fn find_behind<S: Source>(
+    alloc: Global,
+    header: &Header,
+    reader: LineReader,
+    source: &mut S,
+) -> Result<Finding, Stop>
+    requires accepted { IsAccepted header.now }
+    requires going_on { reader.last ≡ Line.Text }
+    ensures found { IfOk result (FindsBehind header.now (next_bytes reader.held (S.left source.old))) }
+    ensures all { IfOk result (ReadsAllOf (S.left source.old) (S.left source.new)) }
+    ensures cause { IfErr result (StopCause (S.faults source.old) (S.faults source.new)) }
+    ensures later { S.faults source.old ≤ S.faults source.new }
+{
+    let mut auditor = match Auditor::new(alloc, header) {
+        Ok(auditor) => auditor,
+        Err(_) => return Err(Stop::OutOfMemory),
+    };
+    let mut lines = ReportReader::new(reader, header.geometry());
+    let mut finding = Finding::Fine;
+    loop {
+        let number = lines.number();
+        match lines.next(source) {
+            Next::Line(line) => finding = judge(&mut auditor, finding, number, &line),
+            Next::End => return Ok(finding),
+            Next::Refused(number, reason) => return Ok(Finding::Refused(number, reason)),
+            Next::Failed => return Err(Stop::ReadFault),
+        }
+    }
+}
+
+// Takes the line with this number, unless a rule was broken before: only C lines and the E line can break one.
+fn judge(auditor: &mut Auditor, finding: Finding, number: u64, line: &ReportLine) -> Finding
+    requires { (h : AnyHeader) × (stage : AnyStage) × (after : AnyStage) × (lines : List AnyReportLine) × Audited h stage number finding auditor.old lines × IsReportLine (shape_of h) line.now × (stage_after stage line.now ≡ Some after) }
+    ensures { (h : AnyHeader) (stage after : AnyStage) (lines : List AnyReportLine) → Audited h stage number finding auditor.old lines → IsReportLine (shape_of h) line.now → stage_after stage line.now ≡ Some after
+        → Audited h after (number + 1) result auditor.new (lines ++ line.now ∷ []) }
+{
+    if !finding.is_fine() {
+        return finding;
+    }
+    if !is_place(line) {
+        return finding;
+    }
+    match auditor.take(line) {
+        Verdict::Fine => Finding::Fine,
+        Verdict::Breaks(rule) => Finding::Broken(number, rule),
+    }
+}
+
+// Whether the line is a C line or an E line.
+fn is_place(line: &ReportLine) -> bool
+    ensures { result ≡ is_place line.now }
+{
+    match line {
+        ReportLine::Issued(_, _) => true,
+        ReportLine::End(_) => true,
+        ReportLine::Value(_, _, _, _) => false,
+        ReportLine::Flip(_, _, _, _) => false,
+        ReportLine::Stat(_, _) => false,
+        ReportLine::Refused(_, _) => false,
+    }
+}

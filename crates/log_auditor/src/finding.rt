@@ -1,0 +1,82 @@
+//! What an audit finds, and the line that it writes.
+ghost use Rattle.std.specs.Prelude.{◌≡◌, ◌++◌, ◌<◌, ◌≤◌, ◌+◌, [], codes, length};
+ghost use Rattle.ddr_text.specs.Spelling.{spaced};
+ghost use Rattle.log_auditor.specs.Findings.{finding_text, is_fine, status_of};
+
+use crate::Rule;
+use arrayvec::ArrayVec;
+use ddr_io::Status;
+use ddr_text::{ReportLine, write_report_line};
+
+/// What is found in a report. Lines are counted from 1 behind its opening; 0 is the header.
+#[derive(Clone, Copy, Debug, PartialEq, Eq)]
+pub(crate) enum Finding {
+    /// It is well formed, and its log satisfies the rules.
+    Fine,
+    /// It is well formed, and this is the first line at which a rule fails, and the least rule there.
+    Broken(u64, Rule),
+    /// This line is refused, for this reason.
+    Refused(u64, u8),
+}
+
+impl Finding {
+    pub(crate) fn is_fine(self) -> bool
+        ensures { result ≡ is_fine self }
+    {
+        match self {
+            Finding::Fine => true,
+            Finding::Broken(_, _) => false,
+            Finding::Refused(_, _) => false,
+        }
+    }
+
+    // The status of an audit that finds this.
+    pub(crate) fn status(self) -> Status
+        ensures { result ≡ status_of self }
+    {
+        match self {
+            Finding::Fine => Status::Ok,
+            Finding::Broken(_, _) => Status::Broken,
+            Finding::Refused(_, _) => Status::Refused,
+        }
+    }
+
+    // Appends the one line of an audit.
+    #[tactic(auto, unfolding(crate::specs::Findings::finding_text))]
+    pub(crate) fn spell(self, out: &mut ArrayVec<u8, 512>)
+        requires { out.old.items ≡ [] }
+        ensures { out.new.items ≡ finding_text self }
+    {
+        match self {
+            Finding::Fine => put_text(b"A ok\n", out),
+            Finding::Broken(line, rule) => {
+                put_text(b"A broken", out);
+                put_number(line, out);
+                put_number(u64::from(rule.0), out);
+                put_text(b"\n", out);
+            }
+            Finding::Refused(line, reason) => write_report_line(
+                &ReportLine::Refused(line, reason),
+                out,
+            ),
+        }
+    }
+}
+
+fn put_text(text: &[u8], out: &mut ArrayVec<u8, 512>)
+    requires { length out.old.items + length text.now ≤ 512 }
+    ensures { out.new.items ≡ out.old.items ++ text.now }
+{
+    let _ = out.try_extend_from_slice(text);
+}
+
+// Appends a space and a number in decimal digits.
+fn put_number(number: u64, out: &mut ArrayVec<u8, 512>)
+    requires { length out.old.items + 21 ≤ 512 }
+    ensures digits { out.new.items ≡ out.old.items ++ spaced number }
+    ensures short { length out.new.items ≤ length out.old.items + 21 }
+{
+    put_text(b" ", out);
+    let mut buffer = itoa::Buffer::new();
+    put_text(buffer.format(number).as_bytes(), out);
+}

@@ -1,0 +1,17 @@
+//! The audit of a command log: whether it satisfies the rules, or the first place that fails and the least rule there.
+#![tactic(auto)]
+
+mod activations;
+mod audit_loop;
+mod auditor;
+mod bank_activity;
+mod finding;
+mod ledger;
+mod report_reader;
+mod rules;
+mod verdict;
+
+pub use audit_loop::audit;
+pub use auditor::Auditor;
+pub use report_reader::{Next, ReportReader, Stage};
+pub use verdict::{Rule, Verdict};
