@@ -1,0 +1,47 @@
+-- A finished run keeps the headline's promises.
+use Rattle.std.proofs.Common.{◌≡◌, ℕ, true, None, List, ◌∷◌, ◌++◌, sym, ◌∙◌, subst}
+use Rattle.speed_bin.specs.Header.{IsAccepted}
+use Rattle.speed_bin.specs.Rules.{verdict_at_end}
+use Rattle.speed_bin.specs.declared.header.Header.{Header}
+use Rattle.requests.specs.Queue.{shape_of}
+use Rattle.ddr_text.specs.declared.lines.TraceLine.{TraceLine}
+use Rattle.reports.specs.Requests.{Request, requests}
+use Rattle.reports.specs.Runs.{Run, log_of, is_served}
+use Rattle.reports.specs.Accesses.{InOrder}
+use Rattle.reports.specs.Delivered.{AreInside}
+use Rattle.reports.specs.Headline.{IsRight, Headline, shown_log}
+use Rattle.reports.specs.Readings.{before, changes_before, reading_of}
+use Rattle.reports.specs.Sound.{Sound, IsRun, AllBounded}
+use Rattle.reports.specs.Tame.{IsTame}
+use Rattle.reports.proofs.Answered.{each_read_answered}
+use Rattle.reports.proofs.Bits.{each_flip_turned}
+use Rattle.reports.proofs.Bounded.{Bound, verdict-run, all-bounded}
+use Rattle.reports.proofs.Found.{is_at}
+use Rattle.reports.proofs.InOrder.{in_order}
+use Rattle.reports.proofs.Logged.{logged}
+use Rattle.reports.proofs.Longer.{sound-before}
+use Rattle.reports.proofs.Memory.{stored-next}
+use Rattle.reports.proofs.Ready.{is_served-each}
+use Rattle.reports.proofs.Served.{served-next}
+use Rattle.reports.proofs.Stored.{plain-read}
+use Rattle.reports.proofs.Tame.{Repairs}
+
+pub read-right : Repairs → (h : Header) (trace : List TraceLine) (run : Run) (earlier later : List Request) (r : Request) → AreInside (shape_of h) trace → Sound h trace run → requests trace ≡ earlier ++ r ∷ later
+    → is_served r.number run ≡ true → IsTame (changes_before h trace run r) r.line → IsRight trace r (reading_of h trace run r)
+read-right laws h trace run earlier later r inside sound e served tame =
+    let next = served-next h trace run earlier r sound (is_at 1 trace earlier later r e) served in
+    let sound_then = sound-before h trace r.number run sound in
+    let plain = plain-read laws h trace (before r.number run) r.line inside sound_then tame in
+    record { bytes = plain.bytes ∙ stored-next h trace (before r.number run) r sound_then next; state = plain.state }
+
+pub headline : Repairs → Bound → (h : Header) (trace : List TraceLine) (run : Run) (clock : ℕ) → IsAccepted h → AreInside (shape_of h) trace → IsRun h trace run clock → Headline h trace run clock
+headline laws bound h trace run clock accepted inside r =
+    let shown : log_of run ≡ shown_log h trace run = sym (logged h trace run) in
+    record {
+      rules = subst (λ log. verdict_at_end h clock log ≡ None) shown (verdict-run h trace run clock r);
+      serves = subst (λ log. InOrder (shape_of h) trace log) shown (in_order h trace run clock r);
+      turns = each_flip_turned h trace run clock r;
+      reads = each_read_answered h trace run clock r;
+      memory = λ earlier later q e reads tame. read-right laws h trace run earlier later q inside r.sound e (is_served-each (requests trace) earlier later q run e r.serves) tame;
+      bounded = subst (λ log. AllBounded h log) shown (all-bounded bound h trace run accepted r.sound);
+    }

@@ -1,0 +1,8 @@
+use Rattle.reports.proofs.Controlled.{chosen-serves, prompt-late}
+use Rattle.reports.proofs.laws.serves_what_is_chosen.Goals as goal
+
+pub returns-clause-serving : goal.returns-clause-serving
+returns-clause-serving c = chosen-serves
+
+pub returns-clause-late : goal.returns-clause-late
+returns-clause-late c = prompt-late

@@ -1,0 +1,15 @@
+pub mod Requests
+pub mod Runs
+pub mod Accesses
+pub mod Memory
+pub mod Barriers
+pub mod Offered
+pub mod Delivered
+pub mod Tame
+pub mod Readings
+pub mod Report
+pub mod Window
+pub mod Sound
+pub mod Whole
+pub mod Headline
+pub mod Underway
