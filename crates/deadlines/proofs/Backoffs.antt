@@ -9,8 +9,9 @@ use Rattle.speed_bin.specs.Kinds.{needs_closed, is_precharge, is_rfm_all, is_act
 use Rattle.speed_bin.specs.Alert.{closes_some, is_hot, alert_after, alert}
 use Rattle.speed_bin.specs.Rules.{rule_13, until, after}
 use Rattle.speed_bin.specs.Gap.{n_max, n_col, n_close, n_tail}
-use Rattle.deadlines.specs.Blocking.{is_column, IsSoonest, last_clock}
-use Rattle.deadlines.specs.Owing.{owed_count}
+use Rattle.requests.specs.Choice.{IsSoonest}
+use Rattle.requests.specs.Owed.{is_column, owed_count}
+use Rattle.deadlines.specs.Blocking.{last_clock}
 use Rattle.deadlines.specs.declared.task.Task.{Task}
 use Rattle.deadlines.specs.declared.task.Task.TheVariants.{RfmAll, Ecs as Scrub, RefAll, RefSame, RfmSame}
 use Rattle.deadlines.specs.Stages.{Stage}
@@ -107,7 +108,7 @@ decided_later h task now start chosen log (Refreshes_same address none n e is tu
 decided_later h task now start chosen log (Manages_same address none n e low is same) = omega arith
 
 -- a turn's command comes at its soonest clock, which is not before now
-pub not_before : (h : Header) (task next : Option Task) (now : ℕ) (place : Issued) (log : Log) → Issues h log task now place next → (s : ℕ) × (now ≤ s) × IsSoonest h.timing s place.clock place.command log
+pub not_before : (h : Header) (task next : Option Task) (now : ℕ) (place : Issued) (log : Log) → Issues h log task now place next → (s : ℕ) × (now ≤ s) × IsSoonest h log s place.command place.clock
 not_before h task next now place log (Writes w l none t n first at) = (now, omega arith, at)
 not_before h task next now place log (Serves chosen start d at adv n) = (start, decided_later h task now start chosen log d, at)
 not_before h task next now place log (Ends chosen start d at is shut n) = (start, decided_later h task now start chosen log d, at)
@@ -128,14 +129,14 @@ backoff_window h task next now a place log (Freely t n e due w kind at) raised l
 backoff_window h task next now a place log (Finally start t n none e l due is at) raised later other = absurd (cc)
 
 -- an RfmAll that goes on had its alert before this place
-backoff_raised : (h : Header) (task next : Option Task) (now : ℕ) (place : Issued) (log : Log) → Backoff h log task now → Issues h log task now place next → next ≡ Some RfmAll → (a : ℕ) × (alert h log ≡ Some a) × Advances h RfmAll log now place × IsSoonest h.timing now place.clock place.command log
+backoff_raised : (h : Header) (task next : Option Task) (now : ℕ) (place : Issued) (log : Log) → Backoff h log task now → Issues h log task now place next → next ≡ Some RfmAll → (a : ℕ) × (alert h log ≡ Some a) × Advances h RfmAll log now place × IsSoonest h log now place.command place.clock
 backoff_raised h task next now place log k (Writes w l none t n first at) e = absurd (cc)
 backoff_raised h task next now place log k (Serves chosen start d at adv n) e = go d
   where
     same : chosen ≡ RfmAll
     same = cc
 
-    go : Decides h log task now chosen start → (a : ℕ) × (alert h log ≡ Some a) × Advances h RfmAll log now place × IsSoonest h.timing now place.clock place.command log
+    go : Decides h log task now chosen start → (a : ℕ) × (alert h log ≡ Some a) × Advances h RfmAll log now place × IsSoonest h log now place.command place.clock
     go (Backs_off b r is s) = (b, r, rw (is, s) at adv, rw s at at)
     go (Goes_on none is s) = absurd (k.raised (is ∙ ap {B = Option Task} (λ x. Some x) same) none)
     go (Scrubs none is d own s) = let x : Scrub ≡ RfmAll = rw own at same in absurd (cc)
@@ -176,10 +177,10 @@ backoff_next h task next now place log some k i = record {
     window a (inl old) raised other = backoff_window h task next now a place log i old raised other
     window a (inr new) raised other = let e = new.0 in omega arith
 
-    still : alert h (place ∷ log) ≡ None → (a : ℕ) × (alert h log ≡ Some a) × Advances h RfmAll log now place × IsSoonest h.timing now place.clock place.command log → ⊥
+    still : alert h (place ∷ log) ≡ None → (a : ℕ) × (alert h log ≡ Some a) × Advances h RfmAll log now place × IsSoonest h log now place.command place.clock → ⊥
     still none p = let s = alert_stays h p.0 place log (advance_no_rfm h RfmAll log now place p.2) p.1 in cc
 
-    closing : (a : ℕ) → alert h (place ∷ log) ≡ Some a → (b : ℕ) × (alert h log ≡ Some b) × Advances h RfmAll log now place × IsSoonest h.timing now place.clock place.command log → (y : ℕ) × Stage h RfmAll (place ∷ log) (place.clock + 1) y × (y + owed_count (place ∷ log) * n_col h.timing ≤ a + h.timing.nabo + n_tail h.timing)
+    closing : (a : ℕ) → alert h (place ∷ log) ≡ Some a → (b : ℕ) × (alert h log ≡ Some b) × Advances h RfmAll log now place × IsSoonest h log now place.command place.clock → (y : ℕ) × Stage h RfmAll (place ∷ log) (place.clock + 1) y × (y + owed_count (place ∷ log) * n_col h.timing ≤ a + h.timing.nabo + n_tail h.timing)
     closing a raised p =
         let stays = alert_stays h p.0 place log (advance_no_rfm h RfmAll log now place p.2) p.1 in
         let same : p.0 ≡ a = cc in

@@ -8,24 +8,26 @@ use Rattle.speed_bin.specs.declared.header.Header.{Header}
 use Rattle.speed_bin.specs.Log.{Log, refs, scrubs}
 use Rattle.speed_bin.specs.Kinds.{is_act, is_precharge, is_rfm_all, is_rfm_same, is_mrw, is_nop, is_scrub}
 use Rattle.speed_bin.specs.Gap.{n_max}
-use Rattle.deadlines.specs.Blocking.{is_column}
+use Rattle.speed_bin.specs.Counts.{commands}
+use Rattle.requests.specs.Owed.{is_column}
 use Rattle.deadlines.specs.declared.task.Task.{Task}
+use Rattle.deadlines.proofs.OneMore.{one_more}
 use Rattle.deadlines.proofs.Moves.{Slack}
 use Rattle.deadlines.specs.Rounds.{Rounds}
 use Rattle.deadlines.specs.Standing.{Stands}
 use Rattle.deadlines.specs.Pace.{is_other, others, Paced}
-use Rattle.deadlines.specs.Counts.{tally, AllAddressed, is_addressed, Job}
+use Rattle.deadlines.specs.Counts.{AllAddressed, is_addressed, Job}
 use Rattle.deadlines.proofs.Rounds.{scrubs_step}
 use Rattle.deadlines.proofs.Keeping.{few_scrubs, not_early_now, some_interval}
 use Rattle.deadlines.proofs.Pace.{refs_sum, sum_all, sum_own, sum_grows, paced_bound}
 use Rattle.deadlines.proofs.Counting.{precharges_most, rfm_all_most, rfm_same_most, acts_most, owed_waiting}
 
 -- the commands that are neither REF nor ECS are of seven kinds
-pub others_are : (log : Log) → others log ≡ tally is_mrw log + tally is_act log + tally is_column log + tally is_precharge log + tally is_rfm_all log + tally is_rfm_same log + tally is_nop log
+pub others_are : (log : Log) → others log ≡ commands is_mrw log + commands is_act log + commands is_column log + commands is_precharge log + commands is_rfm_all log + commands is_rfm_same log + commands is_nop log
 others_are [] = refl
-others_are (place ∷ log) = go place.command (others_are log)
+others_are (place ∷ log) = rw (one_more is_mrw place log, one_more is_act place log, one_more is_column place log, one_more is_precharge place log, one_more is_rfm_all place log, one_more is_rfm_same place log, one_more is_nop place log) (go place.command (others_are log))
   where
-    go : (c : Command) → others log ≡ tally is_mrw log + tally is_act log + tally is_column log + tally is_precharge log + tally is_rfm_all log + tally is_rfm_same log + tally is_nop log → cond (is_other c) (suc (others log)) (others log) ≡ cond (is_mrw c) (suc (tally is_mrw log)) (tally is_mrw log) + cond (is_act c) (suc (tally is_act log)) (tally is_act log) + cond (is_column c) (suc (tally is_column log)) (tally is_column log) + cond (is_precharge c) (suc (tally is_precharge log)) (tally is_precharge log) + cond (is_rfm_all c) (suc (tally is_rfm_all log)) (tally is_rfm_all log) + cond (is_rfm_same c) (suc (tally is_rfm_same log)) (tally is_rfm_same log) + cond (is_nop c) (suc (tally is_nop log)) (tally is_nop log)
+    go : (c : Command) → others log ≡ commands is_mrw log + commands is_act log + commands is_column log + commands is_precharge log + commands is_rfm_all log + commands is_rfm_same log + commands is_nop log → cond (is_other c) (suc (others log)) (others log) ≡ cond (is_mrw c) (suc (commands is_mrw log)) (commands is_mrw log) + cond (is_act c) (suc (commands is_act log)) (commands is_act log) + cond (is_column c) (suc (commands is_column log)) (commands is_column log) + cond (is_precharge c) (suc (commands is_precharge log)) (commands is_precharge log) + cond (is_rfm_all c) (suc (commands is_rfm_all log)) (commands is_rfm_all log) + cond (is_rfm_same c) (suc (commands is_rfm_same log)) (commands is_rfm_same log) + cond (is_nop c) (suc (commands is_nop log)) (commands is_nop log)
     go (Act b r) ih = omega arith
     go (Rd b c) ih = omega arith
     go (Wr b c) ih = omega arith
@@ -67,7 +69,7 @@ places_most (place ∷ log) ok = go place.command refl (places_most log ok.1)
 
 -- ---- The bounds
 
-pub acts_bound : (h : Header) (log : Log) (waiting : List ℕ) (n : ℕ) → Job h log waiting n → tally is_act log ≤ n
+pub acts_bound : (h : Header) (log : Log) (waiting : List ℕ) (n : ℕ) → Job h log waiting n → commands is_act log ≤ n
 acts_bound h log waiting n j =
     let a = acts_most h log j.work in
     let b = owed_waiting log waiting j.owes in

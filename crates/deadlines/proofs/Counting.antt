@@ -11,10 +11,11 @@ use Rattle.speed_bin.specs.Alert.{alert}
 use Rattle.speed_bin.specs.Weights.{sum_below}
 use Rattle.speed_bin.proofs.Sums.{one_change}
 use Rattle.speed_bin.proofs.Effects.{opens_act}
-use Rattle.deadlines.specs.Blocking.{is_column}
-use Rattle.deadlines.specs.Owing.{owed, owed_after, owed_count, count_below}
-use Rattle.deadlines.specs.Counts.{tally, open_count, flag, raa_sum, Works, AllWork}
+use Rattle.speed_bin.specs.Counts.{commands}
+use Rattle.requests.specs.Owed.{is_column, owed_after, owed, count_below, owed_count}
+use Rattle.deadlines.specs.Counts.{open_count, flag, raa_sum, Works, AllWork}
 use Rattle.deadlines.specs.Turns.{has_request}
+use Rattle.deadlines.proofs.OneMore.{one_more}
 use Rattle.deadlines.proofs.Stages.{count_fewer, count_one_fewer, two_tests, same_or_below, owed_open}
 use Rattle.deadlines.proofs.Phases.{stays_closed, stays_calm}
 use Rattle.deadlines.proofs.Backoffs.{alert_ends}
@@ -87,11 +88,11 @@ unfolding open_count count_below
 open_none = refl
 
 -- each precharge closes a bank that an ACT opened
-pub precharges_most : (h : Header) (log : Log) → AllWork h log → tally is_precharge log + open_count log ≤ tally is_act log
+pub precharges_most : (h : Header) (log : Log) → AllWork h log → commands is_precharge log + open_count log ≤ commands is_act log
 precharges_most h [] w = let e = open_none in omega arith
-precharges_most h (place ∷ log) w = go (is_precharge place.command) refl (is_act place.command) refl (precharges_most h log w.1)
+precharges_most h (place ∷ log) w = rw (one_more is_precharge place log, one_more is_act place log) (go (is_precharge place.command) refl (is_act place.command) refl (precharges_most h log w.1))
   where
-    go : (p : Bool) → is_precharge place.command ≡ p → (a : Bool) → is_act place.command ≡ a → tally is_precharge log + open_count log ≤ tally is_act log → cond p (suc (tally is_precharge log)) (tally is_precharge log) + open_count (place ∷ log) ≤ cond a (suc (tally is_act log)) (tally is_act log)
+    go : (p : Bool) → is_precharge place.command ≡ p → (a : Bool) → is_act place.command ≡ a → commands is_precharge log + open_count log ≤ commands is_act log → cond p (suc (commands is_precharge log)) (commands is_precharge log) + open_count (place ∷ log) ≤ cond a (suc (commands is_act log)) (commands is_act log)
     go true f true g ih = let k = precharge_no_act place.command f in absurd (cc)
     go true f false g ih =
         let q = w.0.precharge f in
@@ -121,11 +122,11 @@ rfm_no_precharge : (c : Command) → is_rfm_all c ≡ true → is_precharge c �
 rfm_no_precharge RfmAb k = refl
 rfm_no_precharge c k = absurd (cc)
 
-pub rfm_all_most : (h : Header) (log : Log) → AllWork h log → tally is_rfm_all log + flag (alert h log) ≤ tally is_precharge log
+pub rfm_all_most : (h : Header) (log : Log) → AllWork h log → commands is_rfm_all log + flag (alert h log) ≤ commands is_precharge log
 rfm_all_most h [] w = omega arith
-rfm_all_most h (place ∷ log) w = go (is_precharge place.command) refl (is_rfm_all place.command) refl (rfm_all_most h log w.1)
+rfm_all_most h (place ∷ log) w = rw (one_more is_rfm_all place log, one_more is_precharge place log) (go (is_precharge place.command) refl (is_rfm_all place.command) refl (rfm_all_most h log w.1))
   where
-    go : (p : Bool) → is_precharge place.command ≡ p → (r : Bool) → is_rfm_all place.command ≡ r → tally is_rfm_all log + flag (alert h log) ≤ tally is_precharge log → cond r (suc (tally is_rfm_all log)) (tally is_rfm_all log) + flag (alert h (place ∷ log)) ≤ cond p (suc (tally is_precharge log)) (tally is_precharge log)
+    go : (p : Bool) → is_precharge place.command ≡ p → (r : Bool) → is_rfm_all place.command ≡ r → commands is_rfm_all log + flag (alert h log) ≤ commands is_precharge log → cond r (suc (commands is_rfm_all log)) (commands is_rfm_all log) + flag (alert h (place ∷ log)) ≤ cond p (suc (commands is_precharge log)) (commands is_precharge log)
     go true f true g ih = let k = rfm_no_precharge place.command g in absurd (cc)
     go true f false g ih = let k = flag_one (alert h (place ∷ log)) in omega arith
     go false f true g ih =
@@ -205,11 +206,11 @@ owed_act h place log w act = go (act_case place.command act)
             decide false e = refl
 
 -- each ACT but those of the banks that are owed has its column
-pub acts_most : (h : Header) (log : Log) → AllWork h log → tally is_act log ≤ tally is_column log + owed_count log
+pub acts_most : (h : Header) (log : Log) → AllWork h log → commands is_act log ≤ commands is_column log + owed_count log
 acts_most h [] w = omega arith
-acts_most h (place ∷ log) w = go (is_column place.command) refl (is_act place.command) refl (acts_most h log w.1)
+acts_most h (place ∷ log) w = rw (one_more is_act place log, one_more is_column place log) (go (is_column place.command) refl (is_act place.command) refl (acts_most h log w.1))
   where
-    go : (c : Bool) → is_column place.command ≡ c → (a : Bool) → is_act place.command ≡ a → tally is_act log ≤ tally is_column log + owed_count log → cond a (suc (tally is_act log)) (tally is_act log) ≤ cond c (suc (tally is_column log)) (tally is_column log) + owed_count (place ∷ log)
+    go : (c : Bool) → is_column place.command ≡ c → (a : Bool) → is_act place.command ≡ a → commands is_act log ≤ commands is_column log + owed_count log → cond a (suc (commands is_act log)) (commands is_act log) ≤ cond c (suc (commands is_column log)) (commands is_column log) + owed_count (place ∷ log)
     go true f true g ih = let k = act_no_column place.command g in absurd (cc)
     go true f false g ih = let s = owed_column h place log w.0 f in omega arith
     go false f true g ih = let s = owed_act h place log w.0 g in omega arith
@@ -312,11 +313,11 @@ raa_none : (h : Header) → raa_sum h [] ≡ 0
 unfolding raa_sum
 raa_none h = zero_sum 32
 
-pub rfm_same_most : (h : Header) (log : Log) → 1 ≤ h.settings.raaimt → AllWork h log → raa_sum h log + tally is_rfm_same log ≤ tally is_act log
+pub rfm_same_most : (h : Header) (log : Log) → 1 ≤ h.settings.raaimt → AllWork h log → raa_sum h log + commands is_rfm_same log ≤ commands is_act log
 rfm_same_most h [] some w = let e = raa_none h in omega arith
-rfm_same_most h (place ∷ log) some w = go (is_rfm_same place.command) refl (is_act place.command) refl (rfm_same_most h log some w.1)
+rfm_same_most h (place ∷ log) some w = rw (one_more is_rfm_same place log, one_more is_act place log) (go (is_rfm_same place.command) refl (is_act place.command) refl (rfm_same_most h log some w.1))
   where
-    go : (r : Bool) → is_rfm_same place.command ≡ r → (a : Bool) → is_act place.command ≡ a → raa_sum h log + tally is_rfm_same log ≤ tally is_act log → raa_sum h (place ∷ log) + cond r (suc (tally is_rfm_same log)) (tally is_rfm_same log) ≤ cond a (suc (tally is_act log)) (tally is_act log)
+    go : (r : Bool) → is_rfm_same place.command ≡ r → (a : Bool) → is_act place.command ≡ a → raa_sum h log + commands is_rfm_same log ≤ commands is_act log → raa_sum h (place ∷ log) + cond r (suc (commands is_rfm_same log)) (commands is_rfm_same log) ≤ cond a (suc (commands is_act log)) (commands is_act log)
     go true f true g ih = let k = rfm_same_no_act place.command f in absurd (cc)
     go true f false g ih = let s = raa_rfm h place log some w.0 f g in omega arith
     go false f true g ih = let s = raa_act h place log w.0 g in omega arith

@@ -10,7 +10,9 @@ use Rattle.speed_bin.specs.Kinds.{is_act, is_precharge, needs_closed}
 use Rattle.speed_bin.specs.Rules.{rule_1, rule_2, rule_3, MayFollow}
 use Rattle.speed_bin.proofs.Tests.{joined}
 use Rattle.speed_bin.proofs.Effects.{gap_some, rule_2_head, rule_2_tail}
-use Rattle.deadlines.specs.Blocking.{n_pre, is_column, IsSoonest, last_clock, AllUpTo, AllRise}
+use Rattle.requests.specs.Choice.{IsSoonest}
+use Rattle.requests.specs.Owed.{is_column}
+use Rattle.deadlines.specs.Blocking.{n_pre, last_clock, AllUpTo, AllRise}
 use Rattle.deadlines.specs.Stages.{Closing}
 use Rattle.deadlines.proofs.Gaps.{gap_max, faw_max, gap_columns, gap_column_precharge, gap_column_closed, gap_precharge_any, col_parts, pre_parts}
 
@@ -150,7 +152,7 @@ closing_start h s now log some up below early = record {
   closers = λ c k. may_from h s (s + n_max h.timing + n_pre h.timing + h.timing.nrp) c log up (omega arith) (omega arith);
 }
 
-pub closing_column : (h : Header) (now x : ℕ) (place : Issued) (log : Log) → is_column place.command ≡ true → IsSoonest h.timing now place.clock place.command log → Closing h log now x → Closing h (place ∷ log) (place.clock + 1) (x + n_col h.timing)
+pub closing_column : (h : Header) (now x : ℕ) (place : Issued) (log : Log) → is_column place.command ≡ true → IsSoonest h log now place.command place.clock → Closing h log now x → Closing h (place ∷ log) (place.clock + 1) (x + n_col h.timing)
 closing_column h now x place log column at k = record {
   by_now = omega (arith, here, two);
   columns = λ c own.
@@ -165,7 +167,7 @@ closing_column h now x place log column at k = record {
 }
   where
     here : place.clock ≤ x
-    here = at.least x (k.columns place.command column) k.by_now
+    here = at.least x k.by_now (k.columns place.command column)
 
     two : 2 ≤ n_col h.timing
     two = (col_parts h.timing).0
@@ -173,7 +175,7 @@ closing_column h now x place log column at k = record {
     n_pre_two : 2 ≤ n_pre h.timing
     n_pre_two = (pre_parts h.timing).0
 
-pub precharge_then : (h : Header) (now x : ℕ) (place : Issued) (log : Log) → 1 ≤ h.timing.nrp → is_precharge place.command ≡ true → IsSoonest h.timing now place.clock place.command log → Closing h log now x → (place.clock ≤ x + n_pre h.timing) × ((c : Command) → needs_closed c ≡ true → MayFollow h.timing (x + n_pre h.timing + h.timing.nrp) c (place ∷ log))
+pub precharge_then : (h : Header) (now x : ℕ) (place : Issued) (log : Log) → 1 ≤ h.timing.nrp → is_precharge place.command ≡ true → IsSoonest h log now place.command place.clock → Closing h log now x → (place.clock ≤ x + n_pre h.timing) × ((c : Command) → needs_closed c ≡ true → MayFollow h.timing (x + n_pre h.timing + h.timing.nrp) c (place ∷ log))
 precharge_then h now x place log some precharge at k = (
   here,
   λ c own.
@@ -183,4 +185,4 @@ precharge_then h now x place log some precharge at k = (
 )
   where
     here : place.clock ≤ x + n_pre h.timing
-    here = let n = k.by_now in at.least (x + n_pre h.timing) (k.precharges place.command precharge) (omega arith)
+    here = let n = k.by_now in at.least (x + n_pre h.timing) (omega arith) (k.precharges place.command precharge)

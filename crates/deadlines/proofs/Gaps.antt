@@ -5,7 +5,8 @@ use Rattle.command_words.specs.declared.command.Command.TheVariants.{Rd, Wr, Pre
 use Rattle.speed_bin.specs.declared.timing.Timing.{Timing}
 use Rattle.speed_bin.specs.Gap.{greatest_clocks, Entry, greatest, meet, gap_table, gap, n_max, n_col, n_close}
 use Rattle.speed_bin.specs.Kinds.{is_precharge, needs_closed, is_ref_all, is_ref_same, is_scrub}
-use Rattle.deadlines.specs.Blocking.{n_pre, is_column}
+use Rattle.requests.specs.Owed.{is_column}
+use Rattle.deadlines.specs.Blocking.{n_pre}
 
 -- ---- All gaps
 

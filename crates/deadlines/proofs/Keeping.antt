@@ -13,7 +13,8 @@ use Rattle.speed_bin.specs.Rules.{is_on_time, rule_6, rule_7, rule_8}
 use Rattle.speed_bin.specs.Below.{all_below}
 use Rattle.speed_bin.proofs.Tests.{joined, all_below_from}
 use Rattle.speed_bin.specs.Gap.{n_max}
-use Rattle.deadlines.specs.Blocking.{last_clock, IsSoonest}
+use Rattle.requests.specs.Choice.{IsSoonest}
+use Rattle.deadlines.specs.Blocking.{last_clock}
 use Rattle.deadlines.specs.declared.task.Task.{Task}
 use Rattle.deadlines.specs.declared.task.Task.TheVariants.{RfmAll, Ecs as Scrub, RefAll, RefSame, RfmSame}
 use Rattle.deadlines.specs.Rounds.{next_due, ecs_due, Rounds, per_task}
@@ -247,13 +248,13 @@ ends_in_time h now later i log slack low more due s =
 -- ---- Register writes
 
 -- a register write comes nMax after the one before, so long before a refresh is due
-pub first_clock : (h : Header) (task : Option Task) (now t : ℕ) (c : Command) (log : Log) → Backoff h log task now → Opening h log task now → IsSoonest h.timing now t c log → t ≤ last_clock log + n_max h.timing
+pub first_clock : (h : Header) (task : Option Task) (now t : ℕ) (c : Command) (log : Log) → Backoff h log task now → Opening h log task now → IsSoonest h log now c t → t ≤ last_clock log + n_max h.timing
 first_clock h task now t c log b o at =
     let early = o.prompt in
     let some = some_max h.timing in
-    at.least (last_clock log + n_max h.timing) (may_from h (last_clock log) (last_clock log + n_max h.timing) c log (up_last log b.rises) (omega arith) (omega arith)) (omega arith)
+    at.least (last_clock log + n_max h.timing) (omega arith) (may_from h (last_clock log) (last_clock log + n_max h.timing) c log (up_last log b.rises) (omega arith) (omega arith))
 
-pub first_soon : (h : Header) (task : Option Task) (now t : ℕ) (c : Command) (log : Log) → Slack h → Backoff h log task now → Opening h log task now → length log < 8 → IsSoonest h.timing now t c log → t ≤ next_due h log
+pub first_soon : (h : Header) (task : Option Task) (now t : ℕ) (c : Command) (log : Log) → Slack h → Backoff h log task now → Opening h log task now → length log < 8 → IsSoonest h log now c t → t ≤ next_due h log
 first_soon h task now t c log slack b o few at =
     let k = first_clock h task now t c log b o at in
     let before = o.soon in

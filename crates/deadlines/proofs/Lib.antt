@@ -11,6 +11,7 @@ pub mod Plain
 pub mod Timing
 pub mod Keeping
 pub mod Pace
+pub mod OneMore
 pub mod Counting
 pub mod Queues
 pub mod Bounding

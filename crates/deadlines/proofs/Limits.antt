@@ -6,7 +6,8 @@ use Rattle.speed_bin.specs.Gap.{n_max}
 use Rattle.speed_bin.specs.Header.{IsAccepted}
 use Rattle.speed_bin.specs.Log.{Log}
 use Rattle.speed_bin.specs.declared.header.Header.{Header}
-use Rattle.deadlines.specs.Blocking.{IsSoonest, last_clock}
+use Rattle.requests.specs.Choice.{IsSoonest}
+use Rattle.deadlines.specs.Blocking.{last_clock}
 use Rattle.deadlines.specs.Standing.{Keeps}
 use Rattle.deadlines.specs.declared.task.Task.{Task}
 use Rattle.deadlines.proofs.Moves.{Slack}
@@ -101,9 +102,9 @@ places_small h log task now until idle waiting n ok keeps few short =
 pub last_by_now : (h : Header) (log : Log) (task : Option Task) (now until idle : ℕ) (waiting : List ℕ) (n : ℕ) → Keeps h log task now until idle waiting n → last_clock log ≤ now
 last_by_now h log task now until idle waiting n keeps = (opened h log task now until idle waiting n keeps).stands.backoff.early
 
-pub comes_soon : (h : Header) (log : Log) (task : Option Task) (now until idle : ℕ) (waiting : List ℕ) (n : ℕ) → IsAccepted h → Keeps h log task now until idle waiting n → (start clock : ℕ) (command : Command) → now ≤ start → IsSoonest h.timing start clock command log → clock ≤ start + n_max h.timing
+pub comes_soon : (h : Header) (log : Log) (task : Option Task) (now until idle : ℕ) (waiting : List ℕ) (n : ℕ) → IsAccepted h → Keeps h log task now until idle waiting n → (start clock : ℕ) (command : Command) → now ≤ start → IsSoonest h log start command clock → clock ≤ start + n_max h.timing
 comes_soon h log task now until idle waiting n ok keeps start clock command more at =
     let b = (opened h log task now until idle waiting n keeps).stands.backoff in
     let early = b.early in
     let some = some_max h.timing in
-    at.least (start + n_max h.timing) (may_from h (last_clock log) (start + n_max h.timing) command log (up_last log b.rises) (omega arith) (omega arith)) (omega arith)
+    at.least (start + n_max h.timing) (omega arith) (may_from h (last_clock log) (start + n_max h.timing) command log (up_last log b.rises) (omega arith) (omega arith))

@@ -10,8 +10,8 @@ use Rattle.speed_bin.specs.Gap.{n_max, n_close, n_tail}
 use Rattle.speed_bin.specs.Kinds.{Closes, effect, is_act, is_precharge, is_mrw, is_nop}
 use Rattle.speed_bin.specs.Log.{Issued, Log, open_at, refs}
 use Rattle.speed_bin.specs.declared.header.Header.{Header}
-use Rattle.deadlines.specs.Blocking.{is_column, IsSoonest}
-use Rattle.deadlines.specs.Owing.{owed}
+use Rattle.requests.specs.Choice.{IsSoonest}
+use Rattle.requests.specs.Owed.{is_column, owed}
 use Rattle.deadlines.specs.Tasks.{task_covers, command_of}
 use Rattle.deadlines.specs.Rounds.{next_due, ecs_due}
 use Rattle.deadlines.specs.Timely.{IsTurnOf}
@@ -45,22 +45,22 @@ pub data Decides (h : Header) (log : Log) (task : Option Task) (now : ℕ) (chos
 -- the place that a turn issues
 pub data Issues (h : Header) (log : Log) (task : Option Task) (now : ℕ) (place : Issued) (next : Option Task) : Type 0 where
   -- a register write
-  Writes : is_mrw place.command ≡ true → length log < 8 → alert h log ≡ None → task ≡ None → next ≡ None → place.clock ≤ next_due h log → IsSoonest h.timing now place.clock place.command log → Issues h log task now place next
+  Writes : is_mrw place.command ≡ true → length log < 8 → alert h log ≡ None → task ≡ None → next ≡ None → place.clock ≤ next_due h log → IsSoonest h log now place.command place.clock → Issues h log task now place next
   -- a command for a task, which then goes on
-  Serves : (chosen : Task) (start : ℕ) → Decides h log task now chosen start → IsSoonest h.timing start place.clock place.command log → Advances h chosen log start place → next ≡ Some chosen → Issues h log task now place next
+  Serves : (chosen : Task) (start : ℕ) → Decides h log task now chosen start → IsSoonest h log start place.command place.clock → Advances h chosen log start place → next ≡ Some chosen → Issues h log task now place next
   -- a task's own command
-  Ends : (chosen : Task) (start : ℕ) → Decides h log task now chosen start → IsSoonest h.timing start place.clock place.command log → place.command ≡ command_of chosen → ((b : ℕ) → b < 32 → task_covers chosen b ≡ true → open_at b log ≡ None) → next ≡ None → Issues h log task now place next
+  Ends : (chosen : Task) (start : ℕ) → Decides h log task now chosen start → IsSoonest h log start place.command place.clock → place.command ≡ command_of chosen → ((b : ℕ) → b < 32 → task_covers chosen b ≡ true → open_at b log ≡ None) → next ≡ None → Issues h log task now place next
   -- a column, an ACT or a PREpb for a request, before a refresh is due
-  Freely : task ≡ None → next ≡ None → ecs_due h log ≡ false → place.clock < next_due h log → ((a : ℕ) → alert h log ≡ Some a → place.clock ≤ a + h.timing.nabo) → (is_act place.command || (is_column place.command || is_precharge place.command)) ≡ true → IsSoonest h.timing now place.clock place.command log → Issues h log task now place next
+  Freely : task ≡ None → next ≡ None → ecs_due h log ≡ false → place.clock < next_due h log → ((a : ℕ) → alert h log ≡ Some a → place.clock ≤ a + h.timing.nabo) → (is_act place.command || (is_column place.command || is_precharge place.command)) ≡ true → IsSoonest h log now place.command place.clock → Issues h log task now place next
   -- the PREab after the last request
-  Finally : (start : ℕ) → task ≡ None → next ≡ None → alert h log ≡ None → ecs_due h log ≡ false → now ≤ start → start < next_due h log → place.command ≡ PreAb → IsSoonest h.timing start place.clock place.command log → Issues h log task now place next
+  Finally : (start : ℕ) → task ≡ None → next ≡ None → alert h log ≡ None → ecs_due h log ≡ false → now ≤ start → start < next_due h log → place.command ≡ PreAb → IsSoonest h log start place.command place.clock → Issues h log task now place next
 
 -- the clock from which a turn's command is issued: now, or where a refresh is due at e0 the later of now and next_due, or
 -- after the last request the later of now and the idle target; e0 is the later of now and the idle target, or the
 -- soonest clock of a candidate
 pub data Reaches (h : Header) (log : Log) (now until start : ℕ) : Type 0 where
   Now : start ≡ now → Reaches h log now until start
-  Due : (e0 : ℕ) (c : Command) → start ≡ max now (next_due h log) → next_due h log ≤ e0 → (e0 ≡ max now until) ⊎ IsSoonest h.timing now e0 c log → Reaches h log now until start
+  Due : (e0 : ℕ) (c : Command) → start ≡ max now (next_due h log) → next_due h log ≤ e0 → (e0 ≡ max now until) ⊎ IsSoonest h log now c e0 → Reaches h log now until start
   Target : start ≡ max now until → Reaches h log now until start
 
 -- what a turn does to the banks of the waiting requests: a column takes one away, of its own bank

@@ -10,7 +10,8 @@ use Rattle.speed_bin.specs.Kinds.{is_act, refreshes}
 use Rattle.speed_bin.specs.Gap.{gap, n_max}
 use Rattle.speed_bin.specs.Rules.{rule_1, rule_2, rule_3, MayFollow}
 use Rattle.speed_bin.proofs.Tests.{joined}
-use Rattle.deadlines.specs.Blocking.{IsSoonest, AllUpTo}
+use Rattle.requests.specs.Choice.{IsSoonest}
+use Rattle.deadlines.specs.Blocking.{AllUpTo}
 use Rattle.deadlines.proofs.Moves.{Slack, Reaches, Now, Due, Target}
 use Rattle.deadlines.specs.Rounds.{Rounds, next_due}
 use Rattle.deadlines.specs.Counts.{is_addressed, AllAddressed}
@@ -119,9 +120,9 @@ clear_later t y z (place ∷ log) more k = ((let a = k.0 in omega arith), clear_
 -- ---- A turn
 
 -- one more command takes no more than its span, whatever it waited for
-pub paced_next : (h : Header) (start until idle : ℕ) (place : Issued) (log : Log) → Slack h → (p : Paced h log start until idle) → IsSoonest h.timing start place.clock place.command log → Paced h (place ∷ log) (place.clock + 1) until idle
+pub paced_next : (h : Header) (start until idle : ℕ) (place : Issued) (log : Log) → Slack h → (p : Paced h log start until idle) → IsSoonest h log start place.command place.clock → Paced h (place ∷ log) (place.clock + 1) until idle
 paced_next h start until idle place log s p at =
-    let here : place.clock ≤ p.y = at.least p.y (clear_may h p.y place.command log s p.over) p.by_now in
+    let here : place.clock ≤ p.y = at.least p.y p.by_now (clear_may h p.y place.command log s p.over) in
     let some = some_span h place.command s in
     let b = p.bound in
     let u = p.by_until in
@@ -134,14 +135,14 @@ paced_next h start until idle place log s p at =
     }
 
 -- the e of a candidate is no later, and so is the clock to which now is moved for a refresh that is due there
-pub paced_due : (h : Header) (now until idle e0 due : ℕ) (c : Command) (log : Log) → Slack h → Paced h log now until idle → (e0 ≡ max now until) ⊎ IsSoonest h.timing now e0 c log → due ≤ e0 → Paced h log (max now due) until idle
+pub paced_due : (h : Header) (now until idle e0 due : ℕ) (c : Command) (log : Log) → Slack h → Paced h log now until idle → (e0 ≡ max now until) ⊎ IsSoonest h log now c e0 → due ≤ e0 → Paced h log (max now due) until idle
 paced_due h now until idle e0 due c log s p (inl e) low =
     let a = p.by_now in
     let b = p.by_until in
     record { y = p.y; over = p.over; by_now = omega arith; by_until = p.by_until; bound = p.bound }
 paced_due h now until idle e0 due c log s p (inr at) low =
     let a = p.by_now in
-    let k = at.least p.y (clear_may h p.y c log s p.over) p.by_now in
+    let k = at.least p.y p.by_now (clear_may h p.y c log s p.over) in
     record { y = p.y; over = p.over; by_now = omega arith; by_until = p.by_until; bound = p.bound }
 
 -- an idle turn, and an I line
@@ -234,7 +235,7 @@ paced_bound h log now until idle slack ok r few early p =
     closing_sum (spans h.timing log) (others log * n_max h.timing) (scrubs log) (refs 0 log) m h.timing.necs h.timing.nrp h.timing.nrefi (refs_sum log) now p.y idle s sum scrub half early p.by_now p.bound
 
 -- whatever a turn waits for, its command takes no more than its span
-pub paced_turn : (h : Header) (now until idle start : ℕ) (place : Issued) (log : Log) → Slack h → Paced h log now until idle → Reaches h log now until start → IsSoonest h.timing start place.clock place.command log → Paced h (place ∷ log) (place.clock + 1) until idle
+pub paced_turn : (h : Header) (now until idle start : ℕ) (place : Issued) (log : Log) → Slack h → Paced h log now until idle → Reaches h log now until start → IsSoonest h log start place.command place.clock → Paced h (place ∷ log) (place.clock + 1) until idle
 paced_turn h now until idle start place log s p (Now e) at = paced_next h now until idle place log s p (rw e at at)
 paced_turn h now until idle start place log s p (Due e0 c e low from) at = paced_next h (max now (next_due h log)) until idle place log s (paced_due h now until idle e0 (next_due h log) c log s p from low) (rw e at at)
 paced_turn h now until idle start place log s p (Target e) at = paced_next h (max now until) until idle place log s (paced_idle h now until idle log p) (rw e at at)

@@ -11,7 +11,8 @@ use Rattle.speed_bin.specs.Gap.{gap, n_max, n_col}
 use Rattle.speed_bin.proofs.Tests.{any_below_none}
 use Rattle.speed_bin.proofs.Effects.{opens_act, closes_precharge}
 use Rattle.speed_bin.specs.Rules.{MayFollow}
-use Rattle.deadlines.specs.Blocking.{IsSoonest, AllRise}
+use Rattle.requests.specs.Choice.{IsSoonest}
+use Rattle.deadlines.specs.Blocking.{AllRise}
 use Rattle.deadlines.specs.declared.task.Task.{Task}
 use Rattle.deadlines.specs.declared.task.Task.TheVariants.{RfmAll, Ecs as Scrub, RefAll, RefSame, RfmSame}
 use Rattle.deadlines.specs.Tasks.{task_covers, command_of}
@@ -74,7 +75,7 @@ quiet_stays h place log closed q = record {
 
 -- ---- A command for a task that goes on
 
-pub within_next : (h : Header) (own : Task) (start : ℕ) (place : Issued) (log : Log) → Slack h → InTask h log own start → IsSoonest h.timing start place.clock place.command log → Advances h own log start place → SameRefs h place log → ecs_due h (place ∷ log) ≡ ecs_due h log → (place.clock ≤ limit h log + per_task h) × Phase h (place ∷ log) (Some own) (place.clock + 1)
+pub within_next : (h : Header) (own : Task) (start : ℕ) (place : Issued) (log : Log) → Slack h → InTask h log own start → IsSoonest h log start place.command place.clock → Advances h own log start place → SameRefs h place log → ecs_due h (place ∷ log) ≡ ecs_due h log → (place.clock ≤ limit h log + per_task h) × Phase h (place ∷ log) (Some own) (place.clock + 1)
 within_next h own start place log slack k at adv same e =
     let q = stage_next h own start k.y place log slack.some_nrp at adv k.stage in
     let here : place.clock ≤ k.y = q.0 in
@@ -120,7 +121,7 @@ command_closed (RfmSame address) = refl
 pub end_closed : (h : Header) (place : Issued) (log : Log) (own : Task) → AtEnd h place log own → needs_closed place.command ≡ true
 end_closed h place log own a = ap needs_closed a.is ∙ command_closed own
 
-end_here : (h : Header) (place : Issued) (log : Log) (own : Task) (start : ℕ) → AtEnd h place log own → (k : InTask h log own start) → IsSoonest h.timing start place.clock place.command log → place.clock ≤ k.y
+end_here : (h : Header) (place : Issued) (log : Log) (own : Task) (start : ℕ) → AtEnd h place log own → (k : InTask h log own start) → IsSoonest h log start place.command place.clock → place.clock ≤ k.y
 end_here h place log own start a k at = stage_done h own start k.y place log (end_closed h place log own a) at k.stage
 
 pub end_plain_all : (h : Header) (place : Issued) (log : Log) → place.command ≡ RfmAb → is_plain place.command ≡ true
@@ -131,7 +132,7 @@ pub end_plain_same : (h : Header) (a : ℕ) (place : Issued) (log : Log) → pla
 unfolding is_plain
 end_plain_same h a place log e = rw e refl
 
-pub end_rfm_all : (h : Header) (place : Issued) (log : Log) (start : ℕ) → AtEnd h place log RfmAll → InTask h log RfmAll start → IsSoonest h.timing start place.clock place.command log → (place.clock ≤ limit h log + per_task h) × Phase h (place ∷ log) None (place.clock + 1)
+pub end_rfm_all : (h : Header) (place : Issued) (log : Log) (start : ℕ) → AtEnd h place log RfmAll → InTask h log RfmAll start → IsSoonest h log start place.command place.clock → (place.clock ≤ limit h log + per_task h) × Phase h (place ∷ log) None (place.clock + 1)
 end_rfm_all h place log start a k at =
     let here = end_here h place log RfmAll start a k at in
     let w = k.weight in
@@ -145,7 +146,7 @@ end_rfm_all h place log start a k at =
     } in
     (omega arith, calm_from h place log (next_due h log) a.slack a.rises quiet (omega arith) (omega arith))
 
-pub end_rfm_same : (h : Header) (address : ℕ) (place : Issued) (log : Log) (start : ℕ) → AtEnd h place log (RfmSame address) → InTask h log (RfmSame address) start → IsSoonest h.timing start place.clock place.command log → (place.clock ≤ limit h log + per_task h) × Phase h (place ∷ log) None (place.clock + 1)
+pub end_rfm_same : (h : Header) (address : ℕ) (place : Issued) (log : Log) (start : ℕ) → AtEnd h place log (RfmSame address) → InTask h log (RfmSame address) start → IsSoonest h log start place.command place.clock → (place.clock ≤ limit h log + per_task h) × Phase h (place ∷ log) None (place.clock + 1)
 end_rfm_same h address place log start a k at =
     let here = end_here h place log (RfmSame address) start a k at in
     let w = k.weight in
@@ -157,7 +158,7 @@ end_rfm_same h address place log start a k at =
     let fewer = mul-le-mul_right (n_col h.timing) (owed_fewer place log (closer_other place.command (end_closed h place log (RfmSame address) a))) in
     (omega arith, Busy refl (omega arith))
 
-pub end_scrub : (h : Header) (place : Issued) (log : Log) (start : ℕ) → AtEnd h place log Scrub → ecs_due h log ≡ true → ecs_due h (place ∷ log) ≡ false → InTask h log Scrub start → IsSoonest h.timing start place.clock place.command log → (place.clock ≤ limit h log + per_task h) × Phase h (place ∷ log) None (place.clock + 1)
+pub end_scrub : (h : Header) (place : Issued) (log : Log) (start : ℕ) → AtEnd h place log Scrub → ecs_due h log ≡ true → ecs_due h (place ∷ log) ≡ false → InTask h log Scrub start → IsSoonest h log start place.command place.clock → (place.clock ≤ limit h log + per_task h) × Phase h (place ∷ log) None (place.clock + 1)
 end_scrub h place log start a due done k at =
     let here = end_here h place log Scrub start a k at in
     let w = k.weight in
@@ -169,7 +170,7 @@ end_scrub h place log start a due done k at =
     (omega arith, Busy refl (omega arith))
 
 -- a refresh that does not complete its round
-pub end_next : (h : Header) (address : ℕ) (place : Issued) (log : Log) (start : ℕ) → AtEnd h place log (RefSame address) → NextTurn h place log → ecs_due h log ≡ false → InTask h log (RefSame address) start → IsSoonest h.timing start place.clock place.command log → (place.clock ≤ limit h log + per_task h) × Phase h (place ∷ log) None (place.clock + 1)
+pub end_next : (h : Header) (address : ℕ) (place : Issued) (log : Log) (start : ℕ) → AtEnd h place log (RefSame address) → NextTurn h place log → ecs_due h log ≡ false → InTask h log (RefSame address) start → IsSoonest h log start place.command place.clock → (place.clock ≤ limit h log + per_task h) × Phase h (place ∷ log) None (place.clock + 1)
 end_next h address place log start a n none k at =
     let here = end_here h place log (RefSame address) start a k at in
     let w = k.weight in
@@ -179,7 +180,7 @@ end_next h address place log start a n none k at =
     (omega arith, Busy refl (omega arith))
 
 -- one that completes it
-pub end_complete : (h : Header) (own : Task) (place : Issued) (log : Log) (start : ℕ) → AtEnd h place log own → beside h own ≡ 2 * per_task h → Complete place log → Quiet h (place ∷ log) → InTask h log own start → IsSoonest h.timing start place.clock place.command log → (place.clock ≤ limit h log + per_task h) × Phase h (place ∷ log) None (place.clock + 1)
+pub end_complete : (h : Header) (own : Task) (place : Issued) (log : Log) (start : ℕ) → AtEnd h place log own → beside h own ≡ 2 * per_task h → Complete place log → Quiet h (place ∷ log) → InTask h log own start → IsSoonest h log start place.command place.clock → (place.clock ≤ limit h log + per_task h) × Phase h (place ∷ log) None (place.clock + 1)
 end_complete h own place log start a two c quiet k at =
     let here = end_here h place log own start a k at in
     let w = k.weight in
@@ -197,17 +198,17 @@ not_begun_when : (n : ℕ) (log : Log) → refs 0 log ≡ refs 3 log → when (b
 unfolding begun
 not_begun_when n log same = ap (λ (x : Bool). when x n) (le-ltb (refs 3 log) (refs 0 log) (omega arith))
 
-calm_here : (h : Header) (place : Issued) (log : Log) (own : Task) (start : ℕ) → AtEnd h place log own → (k : Calmed h log start) → IsSoonest h.timing start place.clock place.command log → place.clock ≤ k.x
-calm_here h place log own start a k at = at.least k.x (k.closers place.command (end_closed h place log own a)) k.by_now
+calm_here : (h : Header) (place : Issued) (log : Log) (own : Task) (start : ℕ) → AtEnd h place log own → (k : Calmed h log start) → IsSoonest h log start place.command place.clock → place.clock ≤ k.x
+calm_here h place log own start a k at = at.least k.x k.by_now (k.closers place.command (end_closed h place log own a))
 
-calm_next : (h : Header) (place : Issued) (log : Log) (own : Task) (start n : ℕ) → AtEnd h place log own → (k : Calmed h log start) → IsSoonest h.timing start place.clock place.command log → 1 ≤ n → ((c : Command) → gap h.timing place.command c ≤ max 1 n) → (c : Command) → needs_closed c ≡ true → MayFollow h.timing (k.x + n) c (place ∷ log)
+calm_next : (h : Header) (place : Issued) (log : Log) (own : Task) (start n : ℕ) → AtEnd h place log own → (k : Calmed h log start) → IsSoonest h log start place.command place.clock → 1 ≤ n → ((c : Command) → gap h.timing place.command c ≤ max 1 n) → (c : Command) → needs_closed c ≡ true → MayFollow h.timing (k.x + n) c (place ∷ log)
 calm_next h place log own start n a k at some gaps c closed =
     let here = calm_here h place log own start a k at in
     let g = gaps c in
     may_next h k.x (k.x + n) c place log (closer_other c closed) (k.closers c closed) (omega arith) (omega arith)
 
 -- what a calm start gives for rule 6
-pub calm_soon : (h : Header) (place : Issued) (log : Log) (own : Task) (start : ℕ) → AtEnd h place log own → Calmed h log start → IsSoonest h.timing start place.clock place.command log → place.clock < next_due h log + 3 * h.timing.nrefi
+pub calm_soon : (h : Header) (place : Issued) (log : Log) (own : Task) (start : ℕ) → AtEnd h place log own → Calmed h log start → IsSoonest h log start place.command place.clock → place.clock < next_due h log + 3 * h.timing.nrefi
 calm_soon h place log own start a k at =
     let here = calm_here h place log own start a k at in
     let w = k.weight in
@@ -219,7 +220,7 @@ calm_soon h place log own start a k at =
     let m = when_most (begun log) h.timing.necs in
     omega arith
 
-pub calm_scrub : (h : Header) (place : Issued) (log : Log) (start : ℕ) → AtEnd h place log Scrub → ecs_due h log ≡ true → ecs_due h (place ∷ log) ≡ false → Calmed h log start → IsSoonest h.timing start place.clock place.command log → Phase h (place ∷ log) None (place.clock + 1)
+pub calm_scrub : (h : Header) (place : Issued) (log : Log) (start : ℕ) → AtEnd h place log Scrub → ecs_due h log ≡ true → ecs_due h (place ∷ log) ≡ false → Calmed h log start → IsSoonest h log start place.command place.clock → Phase h (place ∷ log) None (place.clock + 1)
 calm_scrub h place log start a due done k at =
     let here = calm_here h place log Scrub start a k at in
     let some = a.slack.some_necs in
@@ -235,7 +236,7 @@ calm_scrub h place log start a due done k at =
     (omega arith)
 
 -- a refresh that does not complete its round: of address 0, after which an ECS may be due, or of another
-pub calm_first : (h : Header) (place : Issued) (log : Log) (start : ℕ) → AtEnd h place log (RefSame 0) → NextTurn h place log → refs 0 log ≡ refs 3 log → ecs_due h log ≡ false → Calmed h log start → IsSoonest h.timing start place.clock place.command log → Phase h (place ∷ log) None (place.clock + 1)
+pub calm_first : (h : Header) (place : Issued) (log : Log) (start : ℕ) → AtEnd h place log (RefSame 0) → NextTurn h place log → refs 0 log ≡ refs 3 log → ecs_due h log ≡ false → Calmed h log start → IsSoonest h log start place.command place.clock → Phase h (place ∷ log) None (place.clock + 1)
 calm_first h place log start a n first none k at =
     let here = calm_here h place log (RefSame 0) start a k at in
     let some = a.slack.some_nrfcsb in
@@ -249,7 +250,7 @@ calm_first h place log start a n first none k at =
     (calm_next h place log (RefSame 0) start h.timing.nrfcsb a k at some (λ c. gap_ref_same h.timing place.command c (rw a.is refl)))
     (omega arith)
 
-pub calm_other : (h : Header) (address : ℕ) (place : Issued) (log : Log) (start : ℕ) → AtEnd h place log (RefSame address) → NextTurn h place log → refs 0 log ≡ suc (refs 3 log) → ecs_due h (place ∷ log) ≡ false → Calmed h log start → IsSoonest h.timing start place.clock place.command log → Phase h (place ∷ log) None (place.clock + 1)
+pub calm_other : (h : Header) (address : ℕ) (place : Issued) (log : Log) (start : ℕ) → AtEnd h place log (RefSame address) → NextTurn h place log → refs 0 log ≡ suc (refs 3 log) → ecs_due h (place ∷ log) ≡ false → Calmed h log start → IsSoonest h log start place.command place.clock → Phase h (place ∷ log) None (place.clock + 1)
 calm_other h address place log start a n first none k at =
     let here = calm_here h place log (RefSame address) start a k at in
     let some = a.slack.some_nrfcsb in
@@ -264,7 +265,7 @@ calm_other h address place log start a n first none k at =
     (omega arith)
 
 -- the refresh that completes its round
-pub calm_last : (h : Header) (place : Issued) (log : Log) (start : ℕ) → AtEnd h place log (RefSame 3) → Complete place log → ecs_due h (place ∷ log) ≡ false → Calmed h log start → IsSoonest h.timing start place.clock place.command log → Phase h (place ∷ log) None (place.clock + 1)
+pub calm_last : (h : Header) (place : Issued) (log : Log) (start : ℕ) → AtEnd h place log (RefSame 3) → Complete place log → ecs_due h (place ∷ log) ≡ false → Calmed h log start → IsSoonest h log start place.command place.clock → Phase h (place ∷ log) None (place.clock + 1)
 calm_last h place log start a c none k at =
     let here = calm_here h place log (RefSame 3) start a k at in
     let some = a.slack.some_nrfcsb in
@@ -279,7 +280,7 @@ calm_last h place log start a c none k at =
     (calm_next h place log (RefSame 3) start h.timing.nrfcsb a k at some (λ c. gap_ref_same h.timing place.command c (rw a.is refl)))
     (omega arith)
 
-pub calm_all : (h : Header) (place : Issued) (log : Log) (start : ℕ) → AtEnd h place log RefAll → Complete place log → refs 0 log ≡ refs 3 log → Calmed h log start → IsSoonest h.timing start place.clock place.command log → Phase h (place ∷ log) None (place.clock + 1)
+pub calm_all : (h : Header) (place : Issued) (log : Log) (start : ℕ) → AtEnd h place log RefAll → Complete place log → refs 0 log ≡ refs 3 log → Calmed h log start → IsSoonest h log start place.command place.clock → Phase h (place ∷ log) None (place.clock + 1)
 calm_all h place log start a c all k at =
     let here = calm_here h place log RefAll start a k at in
     let some = a.slack.some_nrfc in

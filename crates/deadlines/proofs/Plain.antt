@@ -6,7 +6,9 @@ use Rattle.speed_bin.specs.declared.header.Header.{Header}
 use Rattle.speed_bin.specs.Log.{Issued, Log, open_at, refs, scrubs}
 use Rattle.speed_bin.specs.Kinds.{is_act, is_mrw, is_precharge}
 use Rattle.speed_bin.specs.Gap.{n_max}
-use Rattle.deadlines.specs.Blocking.{is_column, IsSoonest, last_clock, AllRise}
+use Rattle.requests.specs.Choice.{IsSoonest}
+use Rattle.requests.specs.Owed.{is_column}
+use Rattle.deadlines.specs.Blocking.{last_clock, AllRise}
 use Rattle.deadlines.specs.declared.task.Task.{Task}
 use Rattle.deadlines.proofs.Moves.{Advances, Column, Shut, Slack, Decides, Backs_off, Goes_on, Scrubs, Refreshes_all, Refreshes_same, Manages_same}
 use Rattle.deadlines.specs.Rounds.{next_due, ecs_due, Rounds, per_task, limit}
@@ -180,14 +182,14 @@ freely_next h task next now place log slack t later none due kind = record {
 
 -- ---- The PREab at the end, and a command for a task that goes on
 
-preab_clock : (h : Header) (now start t : ℕ) (log : Log) → AllRise log → last_clock log ≤ now → now ≤ start → start < next_due h log → IsSoonest h.timing start t PreAb log → t ≤ next_due h log + n_max h.timing
+preab_clock : (h : Header) (now start t : ℕ) (log : Log) → AllRise log → last_clock log ≤ now → now ≤ start → start < next_due h log → IsSoonest h log start PreAb t → t ≤ next_due h log + n_max h.timing
 preab_clock h now start t log rises early l due at =
     let s = some_max h.timing in
-    at.least (next_due h log + n_max h.timing) (may_from h (last_clock log) (next_due h log + n_max h.timing) PreAb log (up_last log rises) (omega arith) (omega arith)) (omega arith)
+    at.least (next_due h log + n_max h.timing) (omega arith) (may_from h (last_clock log) (next_due h log + n_max h.timing) PreAb log (up_last log rises) (omega arith) (omega arith))
 
-pub finally_next : (h : Header) (task next : Option Task) (now start : ℕ) (place : Issued) (log : Log) → Slack h → AllRise log → last_clock log ≤ now → Timely h log task now → next ≡ None → now ≤ start → start < next_due h log → place.command ≡ PreAb → IsSoonest h.timing start place.clock place.command log → Kept h place log next
+pub finally_next : (h : Header) (task next : Option Task) (now start : ℕ) (place : Issued) (log : Log) → Slack h → AllRise log → last_clock log ≤ now → Timely h log task now → next ≡ None → now ≤ start → start < next_due h log → place.command ≡ PreAb → IsSoonest h log start place.command place.clock → Kept h place log next
 finally_next h task next now start place log slack rises early t none l due is at =
-    let k : IsSoonest h.timing start place.clock PreAb log = rw is at at in
+    let k : IsSoonest h log start PreAb place.clock = rw is at at in
     let low = preab_clock h now start place.clock log rises early l due k in
     let p = per_task_is h in
     let late = k.not_before in
@@ -201,7 +203,7 @@ finally_next h task next now start place log slack rises early t none l due is a
           (busy_from h place log next plain none (omega arith));
     }
 
-pub serves_next : (h : Header) (task next : Option Task) (now start : ℕ) (chosen : Task) (place : Issued) (log : Log) → Slack h → Backoff h log task now → Timely h log task now → now ≤ start → Decides h log task now chosen start → IsSoonest h.timing start place.clock place.command log → Advances h chosen log start place → next ≡ Some chosen → Kept h place log next
+pub serves_next : (h : Header) (task next : Option Task) (now start : ℕ) (chosen : Task) (place : Issued) (log : Log) → Slack h → Backoff h log task now → Timely h log task now → now ≤ start → Decides h log task now chosen start → IsSoonest h log start place.command place.clock → Advances h chosen log start place → next ≡ Some chosen → Kept h place log next
 serves_next h task next now start chosen place log slack b t l d at adv n = go (started h log task now chosen start slack b t d)
   where
     plain : is_plain place.command ≡ true

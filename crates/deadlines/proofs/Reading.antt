@@ -13,8 +13,8 @@ use Rattle.speed_bin.specs.declared.header.Header.{Header}
 use Rattle.speed_bin.specs.declared.settings.RefreshMode.{RefreshMode}
 use Rattle.speed_bin.proofs.Tests.{both}
 use Rattle.speed_bin.proofs.Effects.{closes_precharge}
-use Rattle.deadlines.specs.Blocking.{is_column, IsSoonest}
-use Rattle.deadlines.specs.Owing.{owed}
+use Rattle.requests.specs.Choice.{IsSoonest}
+use Rattle.requests.specs.Owed.{is_column, owed}
 use Rattle.deadlines.specs.Tasks.{task_covers, precharge_of, command_of}
 use Rattle.deadlines.specs.Rounds.{Rounds}
 use Rattle.deadlines.specs.Counts.{Works}
@@ -99,7 +99,7 @@ issues_in_numbers h log task now until waiting place next later slack s o mode (
 
 -- ---- From which clock
 
-looks_either : (h : Header) (log : Log) (now until soonest : ℕ) → LooksTo h log now until soonest → (c : Command) × ((soonest ≡ max now until) ⊎ IsSoonest h.timing now soonest c log)
+looks_either : (h : Header) (log : Log) (now until soonest : ℕ) → LooksTo h log now until soonest → (c : Command) × ((soonest ≡ max now until) ⊎ IsSoonest h log now c soonest)
 looks_either h log now until soonest (LooksToTarget e) = (Nop, inl e)
 looks_either h log now until soonest (Candidate c at) = (c, inr at)
 
@@ -123,7 +123,7 @@ decides_reaches h log task now until chosen start slack r (ManagesSame address s
 pub record From (h : Header) (log : Log) (now until : ℕ) (place : Issued) : Type 0 where
   pub start : ℕ
   pub reaches : Reaches h log now until start
-  pub at : IsSoonest h.timing start place.clock place.command log
+  pub at : IsSoonest h log start place.command place.clock
 
 pub turn_from : (h : Header) (log : Log) (task : Option Task) (now until : ℕ) (waiting : List ℕ) (place : Issued) (next : Option Task) (later : List ℕ) → Slack h → Rounds log → Turn h log task now until waiting place next later → From h log now until place
 turn_from h log task now until waiting place next later slack r (WritesRegister few write at n same) = record { start = now; reaches = Now refl; at = at }

@@ -10,8 +10,9 @@ use Rattle.speed_bin.specs.Log.{Issued, Log, open_after, open_at}
 use Rattle.speed_bin.specs.Kinds.{Effect, Opens, Closes, Manages, Refreshes, Leaves, effect, is_act, is_precharge, needs_closed}
 use Rattle.speed_bin.proofs.Effects.{opens_act, gap_some}
 use Rattle.speed_bin.specs.Gap.{n_max, n_col, n_close}
-use Rattle.deadlines.specs.Blocking.{n_pre, is_column, IsSoonest, last_clock, AllUpTo}
-use Rattle.deadlines.specs.Owing.{owed_after, owed, count_below, owed_count}
+use Rattle.requests.specs.Choice.{IsSoonest}
+use Rattle.requests.specs.Owed.{is_column, owed_after, owed, count_below, owed_count}
+use Rattle.deadlines.specs.Blocking.{n_pre, last_clock, AllUpTo}
 use Rattle.deadlines.specs.declared.task.Task.{Task}
 use Rattle.deadlines.specs.Tasks.{task_covers}
 use Rattle.deadlines.specs.Stages.{Stage, Before, After}
@@ -135,10 +136,10 @@ pub record GoesOn (h : Header) (task : Task) (place : Issued) (log : Log) (y : �
 times_col : (a b c : ℕ) → suc a ≤ b → c + a * c ≤ b * c
 times_col a b c le = let m : suc a * c ≤ b * c = mul-le-mul_right c le in omega arith
 
-pub stage_column : (h : Header) (task : Task) (now y b : ℕ) (place : Issued) (log : Log) → b < 32 → is_column place.command ≡ true → covers place.command b ≡ true → owed b log ≡ true → task_covers task b ≡ true → IsSoonest h.timing now place.clock place.command log → Stage h task log now y → (place.clock ≤ y) × GoesOn h task place log y
+pub stage_column : (h : Header) (task : Task) (now y b : ℕ) (place : Issued) (log : Log) → b < 32 → is_column place.command ≡ true → covers place.command b ≡ true → owed b log ≡ true → task_covers task b ≡ true → IsSoonest h log now place.command place.clock → Stage h task log now y → (place.clock ≤ y) × GoesOn h task place log y
 stage_column h task now y b place log low column cover own within at (Before x k more) =
     let n = k.by_now in
-    let here : place.clock ≤ x = at.least x (k.columns place.command column) (omega arith) in
+    let here : place.clock ≤ x = at.least x (omega arith) (k.columns place.command column) in
     let fewer = owed_one_fewer b place log low column cover own in
     let pay = times_col (owed_count (place ∷ log)) (owed_count log) (n_col h.timing) fewer in (
       omega arith,
@@ -156,7 +157,7 @@ closes_after b place log e = rw e refl
 times_fewer : (a b c : ℕ) → a ≤ b → a * c ≤ b * c
 times_fewer a b c le = mul-le-mul_right c le
 
-pub stage_precharge : (h : Header) (task : Task) (now y b : ℕ) (place : Issued) (log : Log) → 1 ≤ h.timing.nrp → b < 32 → is_precharge place.command ≡ true → task_covers task b ≡ true → (open_at b log ≡ None → ⊥) → ((i : ℕ) → task_covers task i ≡ true → effect i place.command ≡ Closes) → IsSoonest h.timing now place.clock place.command log → Stage h task log now y → (place.clock ≤ y) × GoesOn h task place log y
+pub stage_precharge : (h : Header) (task : Task) (now y b : ℕ) (place : Issued) (log : Log) → 1 ≤ h.timing.nrp → b < 32 → is_precharge place.command ≡ true → task_covers task b ≡ true → (open_at b log ≡ None → ⊥) → ((i : ℕ) → task_covers task i ≡ true → effect i place.command ≡ Closes) → IsSoonest h log now place.command place.clock → Stage h task log now y → (place.clock ≤ y) × GoesOn h task place log y
 stage_precharge h task now y b place log some low precharge within opened shuts at (Before x k more) =
     let p = precharge_then h now x place log some precharge at k in
     let here : place.clock ≤ x + n_pre h.timing = p.0 in
@@ -175,14 +176,14 @@ stage_precharge h task now y b place log some low precharge within opened shuts 
     )
 stage_precharge h task now y b place log some low precharge within opened shuts at (After k) = absurd (opened (k.shut b low within))
 
-pub stage_done : (h : Header) (task : Task) (now y : ℕ) (place : Issued) (log : Log) → needs_closed place.command ≡ true → IsSoonest h.timing now place.clock place.command log → Stage h task log now y → place.clock ≤ y
+pub stage_done : (h : Header) (task : Task) (now y : ℕ) (place : Issued) (log : Log) → needs_closed place.command ≡ true → IsSoonest h log now place.command place.clock → Stage h task log now y → place.clock ≤ y
 stage_done h task now y place log closed at (Before x k more) =
     let n = k.by_now in
-    let here : place.clock ≤ x + n_pre h.timing + h.timing.nrp = at.least (x + n_pre h.timing + h.timing.nrp) (k.closers place.command closed) (omega arith) in
+    let here : place.clock ≤ x + n_pre h.timing + h.timing.nrp = at.least (x + n_pre h.timing + h.timing.nrp) (omega arith) (k.closers place.command closed) in
     omega arith
-stage_done h task now y place log closed at (After k) = at.least y (k.closers place.command closed) k.by_now
+stage_done h task now y place log closed at (After k) = at.least y k.by_now (k.closers place.command closed)
 
 -- a command for a task that goes on
-pub stage_next : (h : Header) (task : Task) (now y : ℕ) (place : Issued) (log : Log) → 1 ≤ h.timing.nrp → IsSoonest h.timing now place.clock place.command log → Advances h task log now place → Stage h task log now y → (place.clock ≤ y) × GoesOn h task place log y
+pub stage_next : (h : Header) (task : Task) (now y : ℕ) (place : Issued) (log : Log) → 1 ≤ h.timing.nrp → IsSoonest h log now place.command place.clock → Advances h task log now place → Stage h task log now y → (place.clock ≤ y) × GoesOn h task place log y
 stage_next h task now y place log some at (Column b low column cover own within) k = stage_column h task now y b place log low column cover own within at k
 stage_next h task now y place log some at (Shut b low precharge within opened shuts) k = stage_precharge h task now y b place log some low precharge within opened shuts at k

@@ -7,8 +7,8 @@ use Rattle.speed_bin.specs.Kinds.{needs_closed}
 use Rattle.speed_bin.specs.Alert.{alert}
 use Rattle.speed_bin.specs.Gap.{n_max, n_col, n_close}
 use Rattle.speed_bin.specs.Rules.{MayFollow}
+use Rattle.requests.specs.Owed.{owed_count}
 use Rattle.deadlines.specs.Blocking.{last_clock, AllRise}
-use Rattle.deadlines.specs.Owing.{owed_count}
 use Rattle.deadlines.specs.declared.task.Task.{Task}
 use Rattle.deadlines.specs.declared.task.Task.TheVariants.{RfmAll, Ecs as Scrub, RefAll, RefSame, RfmSame}
 use Rattle.deadlines.specs.Stages.{Stage, Before, After}

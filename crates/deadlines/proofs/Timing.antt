@@ -5,7 +5,8 @@ use Rattle.speed_bin.specs.declared.header.Header.{Header}
 use Rattle.speed_bin.specs.Log.{Issued, Log, open_at, refs, scrubs}
 use Rattle.speed_bin.specs.Kinds.{is_act}
 use Rattle.speed_bin.specs.Alert.{alert}
-use Rattle.deadlines.specs.Blocking.{IsSoonest, last_clock}
+use Rattle.requests.specs.Choice.{IsSoonest}
+use Rattle.deadlines.specs.Blocking.{last_clock}
 use Rattle.deadlines.specs.declared.task.Task.{Task}
 use Rattle.deadlines.specs.declared.task.Task.TheVariants.{RfmAll, Ecs as Scrub, RefAll, RefSame, RfmSame}
 use Rattle.deadlines.proofs.Moves.{Slack, Decides, Backs_off, Goes_on, Scrubs, Refreshes_all, Refreshes_same, Manages_same, Issues, Writes, Serves, Ends, Freely, Finally}
@@ -37,7 +38,7 @@ record Ending (h : Header) (task : Option Task) (now start : ℕ) (own : Task) (
   timely : Timely h log task now
   later : last_clock log ≤ place.clock
   decided : Decides h log task now own start
-  at : IsSoonest h.timing start place.clock place.command log
+  at : IsSoonest h log start place.command place.clock
   begun_by : InTask h log own start ⊎ (Calmed h log start × NoRfm own)
 
 closer_act : (h : Header) (task : Option Task) (now start : ℕ) (own : Task) (place : Issued) (log : Log) → Ending h task now start own place log → is_act place.command ≡ false
@@ -259,7 +260,7 @@ ends_next h task now start own place log k (ForRfmSame address is) = ends_rfm_sa
 pub timely_next : (h : Header) (task next : Option Task) (now : ℕ) (place : Issued) (log : Log) → Slack h → Backoff h log task now → Timely h log task now → Issues h log task now place next → Kept h place log next
 timely_next h task next now place log slack b t i = go i (not_before h task next now place log i)
   where
-    go : Issues h log task now place next → (s : ℕ) × (now ≤ s) × IsSoonest h.timing s place.clock place.command log → Kept h place log next
+    go : Issues h log task now place next → (s : ℕ) × (now ≤ s) × IsSoonest h log s place.command place.clock → Kept h place log next
     go (Writes w l none u n first at) p = let e = b.early in let k = p.1 in let f = p.2.not_before in writes_next h task next now place log slack t (omega arith) w n first
     go (Serves chosen start d at adv n) p = serves_next h task next now start chosen place log slack b t (decided_later h task now start chosen log d) d at adv n
     go (Ends chosen start d at is shut n) p =

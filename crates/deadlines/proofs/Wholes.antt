@@ -1,5 +1,5 @@
 -- A turn keeps all that the deadlines rest on, and so do an offer, an idle line and a turn that rests.
-use Rattle.std.proofs.Common.{◌≡◌, ◌∙◌, ℕ, suc, ◌+◌, ◌*◌, ◌/◌, ◌≤◌, ◌<◌, Bool, true, false, ◌||◌, ◌==◌, ◌⊎◌, inl, inr, refl, sym, ap, arith, cond, List, [], ◌∷◌, ◌++◌, length, length-append, Option, None, lt-ltb, eqb-true, max}
+use Rattle.std.proofs.Common.{◌≡◌, ◌∙◌, ℕ, suc, ◌+◌, ◌*◌, ◌/◌, ◌≤◌, ◌<◌, Bool, true, false, ◌||◌, ◌==◌, ◌⊎◌, inl, inr, refl, sym, ap, arith, List, [], ◌∷◌, ◌++◌, length, length-append, Option, None, lt-ltb, eqb-true, max}
 use Rattle.command_words.specs.declared.command.Command.{Command}
 use Rattle.command_words.specs.declared.command.Command.TheVariants.{RefAb, RefSb, Mrw, PreAb, Ecs as EcsCommand}
 use Rattle.speed_bin.specs.Alert.{alert}
@@ -13,16 +13,17 @@ use Rattle.speed_bin.specs.declared.header.Header.{Header}
 use Rattle.speed_bin.specs.declared.settings.RefreshMode.{RefreshMode}
 use Rattle.speed_bin.proofs.Tests.{all_below_from}
 use Rattle.refresh_plan.specs.Debts.{IsNothingDue}
-use Rattle.deadlines.specs.Blocking.{is_column}
-use Rattle.deadlines.specs.Owing.{owed}
+use Rattle.speed_bin.specs.Counts.{commands}
+use Rattle.requests.specs.Owed.{is_column, owed}
 use Rattle.deadlines.specs.Tasks.{command_of}
 use Rattle.deadlines.specs.Backoffs.{Backoff}
 use Rattle.deadlines.specs.Timely.{Timely, Ready, ForRefAll, ForRefSame, ForEcs, ForRfmAll, ForRfmSame}
-use Rattle.deadlines.specs.Counts.{tally, is_addressed}
+use Rattle.deadlines.specs.Counts.{is_addressed}
 use Rattle.deadlines.specs.Standing.{AllInTime, Opening, Holds, Keeps}
 use Rattle.deadlines.specs.Turns.{has_request, Turn, WritesRegister, ServesTask, EndsTask, ServesRequest, ClosesAtEnd}
 use Rattle.deadlines.specs.declared.task.Task.{Task}
 use Rattle.deadlines.specs.declared.task.Task.TheVariants.{RfmAll, Ecs as Scrub, RefAll, RefSame, RfmSame}
+use Rattle.deadlines.proofs.OneMore.{commands_most}
 use Rattle.deadlines.proofs.Moves.{Slack, Advances, Column, Shut, Issues, Writes, Serves, Ends, Freely, Finally}
 use Rattle.deadlines.proofs.Rounds.{is_plain, refs_plain, refs_all, refs_scrub}
 use Rattle.deadlines.proofs.Backoffs.{rfm_all_raised}
@@ -76,14 +77,6 @@ issue_addressed h task next now place log t (Ends chosen start d at is shut n) =
 issue_addressed h task next now place log t (Freely u n e due w kind at) = plain_addressed place.command (free_plain place.command kind)
 issue_addressed h task next now place log t (Finally start u n none e l due is at) = rw is refl
 
-tally_most : (f : Command → Bool) (log : Log) → tally f log ≤ length log
-tally_most f [] = omega arith
-tally_most f (place ∷ log) = go (f place.command) (tally_most f log)
-  where
-    go : (x : Bool) → tally f log ≤ length log → cond x (suc (tally f log)) (tally f log) ≤ suc (length log)
-    go true ih = omega arith
-    go false ih = omega arith
-
 column_no_write : (c : Command) → is_column c ≡ true → is_mrw c ≡ true → ⊥
 column_no_write (Mrw w) k m = absurd (cc)
 column_no_write c k m = absurd (cc)
@@ -114,8 +107,8 @@ issue_no_write h task next now place log many (Ends chosen start d at is shut n)
 issue_no_write h task next now place log many (Freely u n e due w kind at) m = free_no_write place.command kind m
 issue_no_write h task next now place log many (Finally start u n none e l due is at) m = let k : is_mrw PreAb ≡ true = rw is at m in absurd (cc)
 
-write_count : (h : Header) (log : Log) (task : Option Task) (now until : ℕ) (waiting : List ℕ) (place : Issued) (next : Option Task) (later : List ℕ) → Turn h log task now until waiting place next later → Issues h log task now place next → is_mrw place.command ≡ true → tally is_mrw log < 8
-write_count h log task now until waiting place next later (WritesRegister few write at n same) i m = let k = tally_most is_mrw log in omega arith
+write_count : (h : Header) (log : Log) (task : Option Task) (now until : ℕ) (waiting : List ℕ) (place : Issued) (next : Option Task) (later : List ℕ) → Turn h log task now until waiting place next later → Issues h log task now place next → is_mrw place.command ≡ true → commands is_mrw log < 8
+write_count h log task now until waiting place next later (WritesRegister few write at n same) i m = let k = commands_most is_mrw log in omega arith
 write_count h log task now until waiting place next later (ServesTask chosen start many d at adv n) i m = absurd (issue_no_write h task next now place log many i m)
 write_count h log task now until waiting place next later (EndsTask chosen start many d at is shut wanted n same) i m = absurd (issue_no_write h task next now place log many i m)
 write_count h log task now until waiting place next later (ServesRequest many u undue nothing window at serves n) i m = absurd (issue_no_write h task next now place log many i m)
@@ -316,7 +309,7 @@ rest_thirteenth h log none clock = rw none refl
 
 -- ---- The bounds
 
-pub bound_acts : (h : Header) (log : Log) (task : Option Task) (now until idle : ℕ) (waiting : List ℕ) (n : ℕ) → IsAccepted h → Keeps h log task now until idle waiting n → tally is_act log ≤ n
+pub bound_acts : (h : Header) (log : Log) (task : Option Task) (now until idle : ℕ) (waiting : List ℕ) (n : ℕ) → IsAccepted h → Keeps h log task now until idle waiting n → commands is_act log ≤ n
 bound_acts h log task now until idle waiting n ok keeps = acts_bound h log waiting n (opened h log task now until idle waiting n keeps).job
 
 pub bound_end : (h : Header) (log : Log) (task : Option Task) (now until idle : ℕ) (waiting : List ℕ) (n : ℕ) → IsAccepted h → Keeps h log task now until idle waiting n → now ≤ 2 * (idle + 8 * n_max h.timing * (n + 3))

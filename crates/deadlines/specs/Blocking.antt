@@ -1,24 +1,12 @@
--- Until when a log blocks a command.
-use Rattle.std.specs.Prelude.{ℕ, ◌+◌, ◌≤◌, Bool, ◌||◌, [], ◌∷◌, IsTrue, ⊤}
-use Rattle.command_words.specs.declared.command.Command.{Command}
-use Rattle.speed_bin.specs.Kinds.{is_rd, is_wr}
+-- The clocks of a log, and from when a precharge can follow its columns.
+use Rattle.std.specs.Prelude.{ℕ, ◌+◌, ◌≤◌, [], ◌∷◌, IsTrue, ⊤}
 use Rattle.speed_bin.specs.Log.{Log}
-use Rattle.speed_bin.specs.Rules.{rule_1, MayFollow}
+use Rattle.speed_bin.specs.Rules.{rule_1}
 use Rattle.speed_bin.specs.declared.timing.Timing.{Timing}
-
--- RD or WR
-abbrev pub is_column : Command → Bool
-is_column command = is_rd command || is_wr command
 
 -- from a column to a precharge, at the most
 unfoldable pub n_pre : Timing → ℕ
 n_pre t = t.ncwl + 8 + t.nwr + t.nrtp
-
--- the clock is the least at which the rules of spacing let the command follow the log and that is not below `start`
-pub record IsSoonest (t : Timing) (start clock : ℕ) (command : Command) (log : Log) : Type 0 where
-  pub follows : MayFollow t clock command log
-  pub not_before : start ≤ clock
-  pub least : (other : ℕ) → MayFollow t other command log → start ≤ other → clock ≤ other
 
 -- the clock of the last place, 0 where there is none
 abbrev pub last_clock : Log → ℕ

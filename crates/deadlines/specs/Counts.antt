@@ -1,22 +1,17 @@
--- How many commands of each kind stand in a log, and what holds of each place for their counts.
-use Rattle.std.specs.Prelude.{ℕ, suc, ◌+◌, ◌<◌, ◌≤◌, ◌≡◌, Bool, true, false, if◌then◌else◌, nat_lt, List, [], ◌∷◌, length, Option, Some, None, is_some, IsTrue, ⊤}
+-- What holds of each place of a log for the counts of its commands.
+use Rattle.std.specs.Prelude.{ℕ, ◌+◌, ◌<◌, ◌≤◌, ◌≡◌, Bool, true, false, nat_lt, List, [], ◌∷◌, length, Option, Some, None, is_some, IsTrue, ⊤}
 use Rattle.command_words.specs.Command.{bank_number}
 use Rattle.command_words.specs.declared.place.Bank.{Bank}
 use Rattle.command_words.specs.declared.command.Command.{Command}
 use Rattle.command_words.specs.declared.command.Command.TheVariants.{Act, RefSb}
 use Rattle.speed_bin.specs.Alert.{alert}
+use Rattle.speed_bin.specs.Counts.{commands}
 use Rattle.speed_bin.specs.Kinds.{Closes, Manages, effect, is_precharge, is_rfm_all, is_rfm_same, is_mrw, is_nop}
 use Rattle.speed_bin.specs.Log.{Log, Issued, open_at, raa}
 use Rattle.speed_bin.specs.Weights.{sum_below}
 use Rattle.speed_bin.specs.declared.header.Header.{Header}
-use Rattle.deadlines.specs.Blocking.{is_column}
-use Rattle.deadlines.specs.Owing.{owed, count_below}
+use Rattle.requests.specs.Owed.{is_column, owed, count_below}
 use Rattle.deadlines.specs.Turns.{has_request}
-
--- how many places have a command of the kind
-abbrev pub tally : (Command → Bool) → Log → ℕ
-tally kind [] = 0
-tally kind (place ∷ log) = if kind place.command then suc (tally kind log) else tally kind log
 
 -- how many banks are open
 unfoldable pub open_count : Log → ℕ
@@ -62,7 +57,7 @@ AllAddressed (place ∷ log) = IsTrue (is_addressed place.command) × AllAddress
 pub record Job (h : Header) (log : Log) (waiting : List ℕ) (n : ℕ) : Type 0 where
   pub work : AllWork h log
   pub owes : (b : ℕ) → b < 32 → owed b log ≡ true → has_request waiting b ≡ true
-  pub offered : tally is_column log + length waiting ≤ n
-  pub writes : tally is_mrw log ≤ 8
-  pub no_nop : tally is_nop log ≡ 0
+  pub offered : commands is_column log + length waiting ≤ n
+  pub writes : commands is_mrw log ≤ 8
+  pub no_nop : commands is_nop log ≡ 0
   pub some_raaimt : 1 ≤ h.settings.raaimt

@@ -1,5 +1,4 @@
 pub mod Blocking
-pub mod Owing
 pub mod Tasks
 pub mod Turns
 pub mod Stages

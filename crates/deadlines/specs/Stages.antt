@@ -5,7 +5,8 @@ use Rattle.speed_bin.specs.Kinds.{is_precharge, needs_closed}
 use Rattle.speed_bin.specs.Log.{Log, open_at}
 use Rattle.speed_bin.specs.Rules.{MayFollow}
 use Rattle.speed_bin.specs.declared.header.Header.{Header}
-use Rattle.deadlines.specs.Blocking.{is_column, n_pre}
+use Rattle.requests.specs.Owed.{is_column}
+use Rattle.deadlines.specs.Blocking.{n_pre}
 use Rattle.deadlines.specs.Tasks.{task_covers}
 use Rattle.deadlines.specs.declared.task.Task.{Task}
 

@@ -14,8 +14,8 @@ use Rattle.speed_bin.specs.Rules.{rule_10}
 use Rattle.speed_bin.specs.declared.header.Header.{Header}
 use Rattle.speed_bin.specs.declared.settings.RefreshMode.{RefreshMode}
 use Rattle.refresh_plan.specs.Debts.{IsNothingDue, IsMostBehind}
-use Rattle.deadlines.specs.Blocking.{is_column, IsSoonest}
-use Rattle.deadlines.specs.Owing.{owed}
+use Rattle.requests.specs.Choice.{IsSoonest}
+use Rattle.requests.specs.Owed.{is_column, owed}
 use Rattle.deadlines.specs.Tasks.{task_covers, precharge_of, command_of}
 use Rattle.deadlines.specs.declared.task.Task.{Task}
 use Rattle.deadlines.specs.declared.task.Task.TheVariants.{RfmAll, Ecs, RefAll, RefSame, RfmSame}
@@ -33,7 +33,7 @@ IsNextDue h log due = (clock : ℕ) → ((clock < due) ↔ IsNothingDue h clock 
 -- the clock that a turn looks forward to: the idle target, or the least one of some candidate
 pub data LooksTo (h : Header) (log : Log) (now until soonest : ℕ) : Type 0 where
   Target : soonest ≡ max now until → LooksTo h log now until soonest
-  Candidate : (command : Command) → IsSoonest h.timing now soonest command log → LooksTo h log now until soonest
+  Candidate : (command : Command) → IsSoonest h log now command soonest → LooksTo h log now until soonest
 
 -- a refresh is due at the clock that the turn looks forward to, and the turn starts where it falls due, or at `now` where
 -- that is later
@@ -101,12 +101,12 @@ pub data Advances (task : Task) (command : Command) (log : Log) (waiting later :
 -- the turn issues this place, leaves the task `next`, and the waiting requests `later`
 pub data Turn (h : Header) (log : Log) (task : Option Task) (now until : ℕ) (waiting : List ℕ) (place : Issued) (next : Option Task) (later : List ℕ) : Type 0 where
   -- one of the eight register writes
-  WritesRegister : length log < 8 → is_mrw place.command ≡ true → IsSoonest h.timing now place.clock place.command log → next ≡ None → later ≡ waiting → Turn h log task now until waiting place next later
+  WritesRegister : length log < 8 → is_mrw place.command ≡ true → IsSoonest h log now place.command place.clock → next ≡ None → later ≡ waiting → Turn h log task now until waiting place next later
   -- a command for a task, which then goes on
-  ServesTask : (chosen : Task) (start : ℕ) → 8 ≤ length log → Decides h log task now until chosen start → IsSoonest h.timing start place.clock place.command log → Advances chosen place.command log waiting later → next ≡ Some chosen → Turn h log task now until waiting place next later
+  ServesTask : (chosen : Task) (start : ℕ) → 8 ≤ length log → Decides h log task now until chosen start → IsSoonest h log start place.command place.clock → Advances chosen place.command log waiting later → next ≡ Some chosen → Turn h log task now until waiting place next later
   -- a task's own command: its banks are closed, and an RFM of one address is wanted
-  EndsTask : (chosen : Task) (start : ℕ) → 8 ≤ length log → Decides h log task now until chosen start → IsSoonest h.timing start place.clock place.command log → place.command ≡ command_of chosen → ((b : ℕ) → b < 32 → task_covers chosen b ≡ true → open_at b log ≡ None) → IsTrue (rule_10 h place.command log) → next ≡ None → later ≡ waiting → Turn h log task now until waiting place next later
+  EndsTask : (chosen : Task) (start : ℕ) → 8 ≤ length log → Decides h log task now until chosen start → IsSoonest h log start place.command place.clock → place.command ≡ command_of chosen → ((b : ℕ) → b < 32 → task_covers chosen b ≡ true → open_at b log ≡ None) → IsTrue (rule_10 h place.command log) → next ≡ None → later ≡ waiting → Turn h log task now until waiting place next later
   -- a command for a request, before anything is due; while an alert is raised it comes within the window
-  ServesRequest : 8 ≤ length log → task ≡ None → (IsEcsDue h log → ⊥) → IsNothingDue h place.clock log → ((raised : ℕ) → alert h log ≡ Some raised → place.clock ≤ raised + h.timing.nabo) → IsSoonest h.timing now place.clock place.command log → Serves place.command log waiting later → next ≡ None → Turn h log task now until waiting place next later
+  ServesRequest : 8 ≤ length log → task ≡ None → (IsEcsDue h log → ⊥) → IsNothingDue h place.clock log → ((raised : ℕ) → alert h log ≡ Some raised → place.clock ≤ raised + h.timing.nabo) → IsSoonest h log now place.command place.clock → Serves place.command log waiting later → next ≡ None → Turn h log task now until waiting place next later
   -- the PREab after the last request, where a bank is open
-  ClosesAtEnd : (b : ℕ) → 8 ≤ length log → task ≡ None → alert h log ≡ None → (IsEcsDue h log → ⊥) → IsNothingDue h (max now until) log → IsSoonest h.timing (max now until) place.clock place.command log → place.command ≡ PreAb → b < 32 → (open_at b log ≡ None → ⊥) → waiting ≡ [] → next ≡ None → later ≡ [] → Turn h log task now until waiting place next later
+  ClosesAtEnd : (b : ℕ) → 8 ≤ length log → task ≡ None → alert h log ≡ None → (IsEcsDue h log → ⊥) → IsNothingDue h (max now until) log → IsSoonest h log (max now until) place.command place.clock → place.command ≡ PreAb → b < 32 → (open_at b log ≡ None → ⊥) → waiting ≡ [] → next ≡ None → later ≡ [] → Turn h log task now until waiting place next later

@@ -7,15 +7,16 @@ ghost use Rattle.command_words.specs.declared.command.Command.{Command};
 ghost use Rattle.speed_bin.specs.declared.header.Header.{Header};
 ghost use Rattle.speed_bin.specs.Alert.{alert};
 ghost use Rattle.speed_bin.specs.Below.{all_below};
+ghost use Rattle.speed_bin.specs.Counts.{commands};
 ghost use Rattle.speed_bin.specs.Gap.{n_max};
 ghost use Rattle.speed_bin.specs.Header.{IsAccepted};
 ghost use Rattle.speed_bin.specs.Kinds.{is_act, is_rfm_all, refreshes};
 ghost use Rattle.speed_bin.specs.Log.{Issued, Log, open_at, refs};
 ghost use Rattle.speed_bin.specs.Rules.{is_on_time, rule_6, rule_7, rule_8, rule_13};
 ghost use Rattle.refresh_plan.specs.Debts.{IsNothingDue};
-ghost use Rattle.deadlines.specs.Blocking.{IsSoonest, last_clock};
-ghost use Rattle.deadlines.specs.Counts.{tally};
-ghost use Rattle.deadlines.specs.Owing.{owed};
+ghost use Rattle.requests.specs.Choice.{IsSoonest};
+ghost use Rattle.requests.specs.Owed.{owed};
+ghost use Rattle.deadlines.specs.Blocking.{last_clock};
 ghost use Rattle.deadlines.specs.Standing.{Keeps};
 ghost use Rattle.deadlines.specs.Turns.{Turn, has_request};
 ghost use Rattle.deadlines.specs.declared.task.Task.{Task as AnyTask};
@@ -81,7 +82,7 @@ pub fn rest()
 /// ACTs, and with a number of commands that is linear in n and in the refresh intervals that passed.
 pub fn bounds()
     ensures activations { (h : Header) (log : Log) (task : Option AnyTask) (now until idle : ℕ) (waiting : List ℕ) (n : ℕ) → IsAccepted h
-        → Keeps h log task now until idle waiting n → tally is_act log ≤ n }
+        → Keeps h log task now until idle waiting n → commands is_act log ≤ n }
     ensures end { (h : Header) (log : Log) (task : Option AnyTask) (now until idle : ℕ) (waiting : List ℕ) (n : ℕ) → IsAccepted h
         → Keeps h log task now until idle waiting n → now ≤ 2 * (idle + 8 * n_max h.timing * (n + 3)) }
     ensures target { (h : Header) (log : Log) (task : Option AnyTask) (now until idle : ℕ) (waiting : List ℕ) (n : ℕ) → IsAccepted h
@@ -105,7 +106,7 @@ pub fn limits()
 pub fn soon()
     ensures within { (h : Header) (log : Log) (task : Option AnyTask) (now until idle : ℕ) (waiting : List ℕ) (n : ℕ) → IsAccepted h
         → Keeps h log task now until idle waiting n → (start clock : ℕ) (command : Command) → now ≤ start
-        → IsSoonest h.timing start clock command log → clock ≤ start + n_max h.timing }
+        → IsSoonest h log start command clock → clock ≤ start + n_max h.timing }
     ensures small { (h : Header) → IsAccepted h → n_max h.timing < 2 ^ 14 }
     ensures last { (h : Header) (log : Log) (task : Option AnyTask) (now until idle : ℕ) (waiting : List ℕ) (n : ℕ)
         → Keeps h log task now until idle waiting n → last_clock log ≤ now }

@@ -14,4 +14,3 @@ mod Turning
 mod Offered
 mod Unraised
 mod Taken
-mod Tallied

@@ -28,8 +28,8 @@ use Rattle.scheduler.specs.declared.choice.Class.{Class}
 use Rattle.scheduler.specs.declared.choice.Class.TheVariants.{Column, Activate, Precharge}
 use Rattle.scheduler.specs.declared.controller.Controller.{Controller}
 use Rattle.scheduler.proofs.First.{none_found, get-inside}
-use Rattle.scheduler.proofs.Tools.{any_below_false, owed_is, soonest_there}
-use Rattle.scheduler.proofs.Parts.{length-places, at_least, not_empty, hit_of, first_of, takes_of, has_of, column_is_there, column_fits, column_spares, column_ninth, column_tenth, column_twelfth, column_fourteenth, column_chosen, column_prompt, never_excused}
+use Rattle.scheduler.proofs.Tools.{any_below_false}
+use Rattle.scheduler.proofs.Parts.{length-places, at_least, not_empty, hit_of, first_of, takes_of, has_of, column_is, column_fits, column_spares, column_ninth, column_tenth, column_twelfth, column_fourteenth, column_chosen, column_prompt, never_excused}
 
 -- ---- When it comes
 
@@ -38,7 +38,7 @@ pub record IsSoon (clock start : ℕ) : Type 0 where
 
 pub soon_of : (laws : Laws) (c : Controller) (h : Header) (offered : List Request) (idle : ℕ) (log : List Step) (start clock : ℕ) (command : Command) → Holds h c offered idle log → c.ledger.from ≤ start → IsSoonest h (places log) start command clock → IsSoon clock start
 soon_of laws c h offered idle log start clock command s le e =
-    let a = laws.deadlines.within h (places log) c.task c.ledger.from c.until idle (banks_of c.queue.items) (length offered) s.accepted s.deadlines start clock command le (soonest_there h (places log) start clock command e) in
+    let a = laws.deadlines.within h (places log) c.task c.ledger.from c.until idle (banks_of c.queue.items) (length offered) s.accepted s.deadlines start clock command le e in
     let b = laws.deadlines.small h s.accepted in
     record { within = omega (arith, a, b) }
 
@@ -147,7 +147,7 @@ moves_of : (laws : Laws) (k : Class) (w : Waiting) (h : Header) (offered : List 
 moves_of laws Column w h offered log ws finished b at clock r wants here low started le none window =
     let k = hit_of ws b at (open_at b (places log)) w wants here in
     record {
-      serves = ServesColumn (column_is_there w.request.kind w.place) (takes_of ws at w here);
+      serves = ServesColumn (column_is w.request.kind w.place) (takes_of ws at w here);
       requested = laws.requests.column h offered log ws (excused None finished ws) (excused None finished (remove ws at)) clock at b (command_for Column w) w r refl here k.oldest_hit
           (λ i below e. absurd (let f = never_excused finished ws i at w here in cc));
       fitting = column_fitting w h (places log) ws b at clock wants here (subst (λ n. 8 ≤ n) (sym (length-places log)) started);
@@ -166,7 +166,7 @@ moves_of laws Precharge w h offered log ws finished b at clock r wants here low 
     let inside : bank_number w.place.bank < 32 = subst (λ n. n < 32) (sym k.bank) low in
     let spared = laws.requests.missed h offered log ws (excused None finished ws) b r low (none_found 0 (hits b (open_at b (places log))) ws wants.1) in
     let f = precharge_fitting w h (places log) ws b at clock wants here (subst (λ n. 8 ≤ n) (sym (length-places log)) started) spared in record {
-      serves = Precharges w.place.bank refl inside (is_open_is _ f.chosen.0.opened) (owed_is (bank_number w.place.bank) (places log) ∙ subst (λ n. owed n (places log) ≡ false) (sym k.bank) spared) refl;
+      serves = Precharges w.place.bank refl inside (is_open_is _ f.chosen.0.opened) (subst (λ n. owed n (places log) ≡ false) (sym k.bank) spared) refl;
       requested = laws.requests.precharge h offered log ws (excused None finished ws) (excused None finished ws) clock w.place.bank r f.chosen.0 (λ i below e. e);
       fitting = f;
     }
@@ -192,7 +192,7 @@ offer_ready laws c h offered idle log candidate a bound started free best = reco
         late = soonest.not_before;
         near = omega (arith, within, bound);
         soon = omega (arith, within);
-        turn = ServesRequest places_started free.untasked free.no_scrub free.no_refresh free.window (soonest_there h (places log) c.ledger.from candidate.clock (command_for candidate.class w) soonest) m.serves refl;
+        turn = ServesRequest places_started free.untasked free.no_scrub free.no_refresh free.window soonest m.serves refl;
         follows = soonest.follows;
         fits = f.fits;
         ninth = f.ninth;

@@ -9,12 +9,11 @@ use Rattle.speed_bin.specs.Rules.{rule_10, rule_14}
 use Rattle.speed_bin.specs.declared.header.Header.{Header}
 use Rattle.bank_state.specs.Standing.{Fits}
 use Rattle.requests.specs.Choice.{column_for, IsChosen, IsPrompt, IsSoonest}
-use Rattle.requests.specs.Owed.{SparesOwed}
+use Rattle.requests.specs.Owed.{is_column, SparesOwed}
 use Rattle.requests.specs.Queue.{Step, places, in_bank, hits, is_row, oldest}
 use Rattle.requests.specs.declared.request.Kind.{Kind}
 use Rattle.requests.specs.declared.request.Kind.TheVariants.{Read, Write}
 use Rattle.requests.specs.declared.waiting.Waiting.{Waiting}
-use Rattle.deadlines.specs.Blocking.{is_column as is_column_there}
 use Rattle.deadlines.specs.Turns.{Takes, has_request}
 use Rattle.scheduler.specs.Board.{first_at}
 use Rattle.scheduler.specs.Controller.{banks_of, excused, none_wait}
@@ -104,9 +103,9 @@ has_of (v ∷ ws) (suc at) w e = go (bank_number v.place.bank == bank_number w.p
 
 -- ---- Columns
 
-pub column_is_there : (kind : Kind) (place : Place) → is_column_there (column_for kind place) ≡ true
-column_is_there Read place = refl
-column_is_there Write place = refl
+pub column_is : (kind : Kind) (place : Place) → is_column (column_for kind place) ≡ true
+column_is Read place = refl
+column_is Write place = refl
 
 pub column_covers_bank : (kind : Kind) (place : Place) (b : ℕ) → bank_number place.bank ≡ b → covers (column_for kind place) b ≡ true
 column_covers_bank Read place b e = eq-eqb (bank_number place.bank) b e

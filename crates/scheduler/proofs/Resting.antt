@@ -21,7 +21,7 @@ use Rattle.scheduler.specs.Steps.{IsReadySoon, IsResting, with_from}
 use Rattle.scheduler.specs.declared.choice.Candidate.{Candidate}
 use Rattle.scheduler.specs.declared.controller.Controller.{Controller}
 use Rattle.scheduler.proofs.Spaced.{up_to_more}
-use Rattle.scheduler.proofs.Tools.{fails_below, none_failing, joined, soonest_there}
+use Rattle.scheduler.proofs.Tools.{fails_below, none_failing, joined}
 use Rattle.scheduler.proofs.Parts.{length-places, at_least}
 use Rattle.scheduler.proofs.Offering.{soon_of}
 
@@ -159,7 +159,7 @@ last_ready laws c h offered idle log r bound finished opened = record {
         late = after;
         near = omega (arith, within, bound, target);
         soon = omega (arith, within);
-        turn = ClosesAtEnd o.index started r.free.untasked calm.no_alert r.free.no_scrub r.free.no_refresh (soonest_there h (places log) e0 clock PreAb soonest) refl o.low (none_of _ o.fails) empty refl empty;
+        turn = ClosesAtEnd o.index started r.free.untasked calm.no_alert r.free.no_scrub r.free.no_refresh soonest refl o.low (none_of _ o.fails) empty refl empty;
         follows = soonest.follows;
         fits = record { fourth = refl; fifth = refl };
         ninth = refl;

@@ -32,8 +32,8 @@ use Rattle.scheduler.specs.declared.controller.Controller.{Controller}
 use Rattle.scheduler.specs.declared.task.Errand.{Errand}
 use Rattle.scheduler.proofs.First.{none_found, get-inside, not_asked}
 use Rattle.scheduler.proofs.Spaced.{up_to_more}
-use Rattle.scheduler.proofs.Tools.{both, joined, all_below_at, fails_below, not_false, owed_is, soonest_there}
-use Rattle.scheduler.proofs.Parts.{length-places, at_least, not_empty, some_long, hit_of, takes_of, column_is_there, column_covers_bank, column_prompt}
+use Rattle.scheduler.proofs.Tools.{both, joined, all_below_at, fails_below, not_false}
+use Rattle.scheduler.proofs.Parts.{length-places, at_least, not_empty, some_long, hit_of, takes_of, column_is, column_covers_bank, column_prompt}
 use Rattle.scheduler.proofs.Offering.{soon_of, column_fitting}
 use Rattle.scheduler.proofs.Tasked.{column_plain, precharge_plain, tasked_after, still_covered, precharge_covers, command_covers, precharge_closes}
 
@@ -162,8 +162,8 @@ column_ready laws c h offered idle log errand asked candidate r bound same best 
           late = after;
           near = omega (arith, within, early, near, bound, target);
           soon = omega (arith, within, early, near);
-          turn = ServesTask errand.task errand.start places_started r.errand_is.decides (soonest_there h (places log) errand.start clock (command_for Column w) soonest)
-              (OwedColumn b low (column_is_there w.request.kind w.place) (column_covers_bank w.request.kind w.place b k.bank) (owed_is b (places log) ∙ o.owes) o.covered (takes_of c.queue.items at w here)) refl;
+          turn = ServesTask errand.task errand.start places_started r.errand_is.decides soonest
+              (OwedColumn b low (column_is w.request.kind w.place) (column_covers_bank w.request.kind w.place b k.bank) o.owes o.covered (takes_of c.queue.items at w here)) refl;
           follows = soonest.follows;
           fits = f.fits;
           ninth = f.ninth;
@@ -284,8 +284,8 @@ shut_ready laws c h offered idle log errand r bound paid not_fit = record {
         late = after;
         near = omega (arith, within, early, near, bound, target);
         soon = omega (arith, within, early, near);
-        turn = ServesTask task errand.start places_started r.errand_is.decides (soonest_there h (places log) errand.start clock (precharge_of task) soonest)
-            (Shuts o.bank o.low o.covered (none_of _ o.is_open) (λ i low covered. owed_is i (places log) ∙ paid i low covered) refl refl) refl;
+        turn = ServesTask task errand.start places_started r.errand_is.decides soonest
+            (Shuts o.bank o.low o.covered (none_of _ o.is_open) paid refl refl) refl;
         follows = soonest.follows;
         fits = k.fits;
         ninth = k.ninth;
@@ -371,7 +371,7 @@ end_ready laws c h offered idle log errand r bound fit = record {
       let near = n.near in let early = r.errand_is.early in let within = q.within in let target = s.target in let after = soonest.not_before in let late = r.errand_is.late in
       let e = ending_of task h c.ledger.from clock (places log) c.queue.items places_started in
       let turn : Turn h (places log) c.task c.ledger.from c.until (banks_of c.queue.items) (record { clock = clock; command = command }) None (banks_of c.queue.items)
-      = EndsTask task errand.start places_started r.errand_is.decides (soonest_there h (places log) errand.start clock command soonest) refl (closed_of task (places log) fit) (tenth_of task h errand.start (places log) r.errand_is.tasked) refl refl in
+      = EndsTask task errand.start places_started r.errand_is.decides soonest refl (closed_of task (places log) fit) (tenth_of task h errand.start (places log) r.errand_is.tasked) refl refl in
       let k = laws.deadlines.turn h (places log) c.task None c.ledger.from c.until idle (banks_of c.queue.items) (banks_of c.queue.items) (length offered) (record { clock = clock; command = command }) s.accepted s.deadlines turn in record {
         holds = s;
         seen = r.awake.seen;

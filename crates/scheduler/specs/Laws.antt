@@ -15,14 +15,13 @@ use Rattle.speed_bin.specs.Log.{Issued, Log, open_at, refs}
 use Rattle.speed_bin.specs.Rules.{is_on_time, rule_5, rule_6, rule_7, rule_8, rule_13}
 use Rattle.speed_bin.specs.declared.header.Header.{Header}
 use Rattle.refresh_plan.specs.Debts.{IsNothingDue}
-use Rattle.requests.specs.Choice.{column_for, IsOldestRow, IsMissed}
+use Rattle.requests.specs.Choice.{column_for, IsOldestRow, IsMissed, IsSoonest}
 use Rattle.requests.specs.Owed.{owed, SparesOwed}
 use Rattle.requests.specs.Page.{Excuses}
 use Rattle.requests.specs.Queue.{Step, places, hits, oldest}
 use Rattle.requests.specs.Requested.{Requested, IsQueued}
 use Rattle.requests.specs.declared.request.Request.{Request}
 use Rattle.requests.specs.declared.waiting.Waiting.{Waiting}
-use Rattle.deadlines.specs.Blocking.{IsSoonest}
 use Rattle.deadlines.specs.Standing.{Keeps}
 use Rattle.deadlines.specs.Turns.{Turn}
 use Rattle.deadlines.specs.declared.task.Task.{Task}
@@ -43,7 +42,7 @@ pub record DeadlineLaws : Type 0 where
       → Keeps h log task now until idle waiting n → Turn h log task now until waiting place next later → Kept h log next until idle later n place
   pub within : (h : Header) (log : Log) (task : Option Task) (now until idle : ℕ) (waiting : List ℕ) (n : ℕ) → IsAccepted h
       → Keeps h log task now until idle waiting n → (start clock : ℕ) (command : Command) → now ≤ start
-      → IsSoonest h.timing start clock command log → clock ≤ start + n_max h.timing
+      → IsSoonest h log start command clock → clock ≤ start + n_max h.timing
   pub small : (h : Header) → IsAccepted h → n_max h.timing < 2 ^ 14
   pub rest : (h : Header) (log : Log) (now until idle : ℕ) (waiting : List ℕ) (n : ℕ) → IsAccepted h
       → Keeps h log None now until idle waiting n → 8 ≤ length log → alert h log ≡ None → IsNothingDue h (max now until) log

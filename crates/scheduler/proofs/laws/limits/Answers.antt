@@ -1,4 +1,4 @@
-use Rattle.std.proofs.Common.{ℕ, ◌<◌, length, subst}
+use Rattle.std.proofs.Common.{◌<◌, length, subst}
 use Rattle.requests.specs.Queue.{places}
 use Rattle.scheduler.specs.Controller.{banks_of}
 use Rattle.scheduler.proofs.Parts.{length-places}

@@ -1,6 +1,4 @@
-use Rattle.std.proofs.Common.{◌≡◌, ◌∙◌, ℕ, suc, Option, Some, None, length, refl, sym}
-use Rattle.speed_bin.specs.Kinds.{is_nop}
-use Rattle.scheduler.proofs.Tallied.{tally_is}
+use Rattle.std.proofs.Common.{◌≡◌, ℕ, suc, Option, Some, None, length, refl}
 use Rattle.speed_bin.specs.Rules.{broken, verdict, verdict_after}
 use Rattle.requests.specs.Queue.{places}
 use Rattle.scheduler.specs.Controller.{StandsFor}
@@ -29,4 +27,4 @@ returns-clause-accepted c = λ h x offered idle log s. s.accepted
 
 pub returns-clause-no_nop : goal.returns-clause-no_nop
 unfolding StandsFor Rattle.deadlines.specs.Standing.Keeps
-returns-clause-no_nop c = λ h x offered idle log s. sym (tally_is is_nop (places log)) ∙ s.deadlines.job.no_nop
+returns-clause-no_nop c = λ h x offered idle log s. s.deadlines.job.no_nop

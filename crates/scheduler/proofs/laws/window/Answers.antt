@@ -1,4 +1,4 @@
-use Rattle.std.proofs.Common.{ℕ, ◌≤◌, length, subst}
+use Rattle.std.proofs.Common.{◌≤◌, length, subst}
 use Rattle.requests.specs.Queue.{span}
 use Rattle.scheduler.proofs.laws.window.Goals as goal
 
