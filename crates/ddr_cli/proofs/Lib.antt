@@ -1,2 +1,5 @@
+pub mod MadeJob
+pub mod MadeRun
+pub mod MadeWords
 pub mod OneWord
 pub mod ShowLemmas

@@ -12,8 +12,7 @@ use Rattle.ddr_io.specs.Sink.{AppendsPrefix}
 use Rattle.ddr_io.specs.declared.line_reader.Line.TheVariants.{Text as TextAnswer}
 use Rattle.ddr_io.specs.declared.status.Status.{Status}
 use Rattle.ddr_io.specs.declared.status.Status.TheVariants as status
-use Rattle.ddr_text.specs.Opening.{IsOpening, opening_of}
-use Rattle.ddr_text.specs.Sound.{Refusal}
+use Rattle.ddr_text.specs.Opening.{IsOpening}
 use Rattle.ddr_text.specs.Spelling.{report_text, spelled}
 use Rattle.ddr_text.specs.declared.lines.ReportLine.{ReportLine}
 use Rattle.ddr_text.specs.declared.lines.ReportLine.TheVariants.{Refused}

@@ -1,4 +1,5 @@
 pub mod AtEnd
 pub mod Fault
+pub mod Made
 pub mod Shown
 pub mod Words

@@ -13,7 +13,7 @@ use Rattle.ddr_io.specs.declared.line_reader.Line.TheVariants.{Text as TextAnswe
 use Rattle.ddr_io.specs.declared.status.Status.{Status}
 use Rattle.ddr_io.specs.declared.status.Status.TheVariants as status
 use Rattle.ddr_text.specs.Opening.{Opens, Accepts, Refuses as RefusesOpening, opening_of, parts_of}
-use Rattle.ddr_text.specs.Sound.{Refusal}
+use Rattle.ddr_text.specs.ReportParts.{Refusal}
 use Rattle.ddr_text.specs.Spelling.{spelled}
 use Rattle.ddr_text.specs.declared.lines.ReportLine.{ReportLine}
 use Rattle.ddr_text.specs.declared.lines.ReportLine.TheVariants.{Issued, Value, Flip, Stat, End, Refused}

@@ -1,21 +1,25 @@
 //! The program: it reads a job or a report on standard input, and writes a report, a verdict or its commands on standard
-//! output.
+//! output; or it makes a job.
 #![tactic(auto)]
 
 mod at_end;
 #[cfg(test)]
 mod audit_tests;
 mod fault;
-mod report_words;
+mod form;
+mod made_run;
 mod run;
 mod showing;
 mod shown;
+#[cfg(test)]
+mod stress_tests;
 #[cfg(test)]
 mod tests;
 
 pub use at_end::at_end;
 use ddr_io::{RealSink, RealSource, Status};
 pub use fault::{Fault, fault_of};
+pub use form::{Form, form_of};
 pub use run::run;
 use std::io::{BufWriter, ErrorKind, Write};
 use std::process::ExitCode;

@@ -1,16 +1,23 @@
 //! The top call.
-ghost use Rattle.std.specs.Prelude.{ℕ, ◌≡◌, ◌≢◌, ◌↔◌, List, Option, Some, None};
+ghost use Rattle.std.specs.Prelude.{ℕ, ◌≡◌, ◌≢◌, ◌↔◌, List, Some, None};
 ghost use Rattle.ddr_io.specs.Faults.{Rose};
 ghost use Rattle.ddr_text.specs.declared.lines.TraceLine.{TraceLine};
 ghost use Rattle.speed_bin.specs.declared.header.Header.{Header};
 ghost use Rattle.trace_replay.specs.Job.{IsJobOf};
 ghost use Rattle.trace_replay.specs.Replay.{Answers};
 ghost use Rattle.log_auditor.specs.Findings.{Answers as AuditAnswers};
+ghost use Rattle.made_jobs.specs.Made.{made};
+ghost use Rattle.made_jobs.specs.Writing.{Writes};
+ghost use Rattle.ddr_cli.specs.Made.{MadeAnswers};
 ghost use Rattle.ddr_cli.specs.Shown.{ShowAnswers};
-ghost use Rattle.ddr_cli.specs.Words.{IsAudit, IsListed, IsReplay, IsShow};
+ghost use Rattle.ddr_cli.specs.Words.{IsAudit, IsGen, IsGenRun, IsListed, IsReplay, IsShow, Makes};
 
-use crate::report_words::on_report;
+use crate::made_run::run_made;
+use crate::showing::show;
+use crate::{Form, form_of};
 use ddr_io::{Sink, Source, Status};
+use log_auditor::audit;
+use made_jobs::write_job;
 use std::alloc::Global;
 use trace_replay::replay;
 
@@ -30,8 +37,8 @@ pub fn run<S: Source, K: Sink>(
     ensures replayed { IsReplay words.now → Answers result (S.left source.old) (S.left source.new) (K.written sink.old) (K.written sink.new) }
 
     // A job with nothing to refuse is not refused.
-    ensures complete { (bytes : List ℕ) (left : Option (List ℕ)) (h : Header) (text : List ℕ) (trace : List TraceLine) → IsReplay words.now
-        → S.left source.old ≡ Some bytes → IsJobOf (Some bytes) left h text trace None → result ≢ Status.Refused }
+    ensures complete { (bytes : List ℕ) (h : Header) (text : List ℕ) (trace : List TraceLine) → IsReplay words.now
+        → S.left source.old ≡ Some bytes → IsJobOf (Some bytes) h text trace None → result ≢ Status.Refused }
 
     // With the word `audit`: the verdict on the report in the bytes that were read.
     ensures audited { IsAudit words.now → AuditAnswers result (S.left source.old) (S.left source.new) (K.written sink.old) (K.written sink.new) }
@@ -39,13 +46,26 @@ pub fn run<S: Source, K: Sink>(
     // With the word `show`: its commands in readable form.
     ensures shown { IsShow words.now → ShowAnswers result (S.left source.old) (S.left source.new) (K.written sink.old) (K.written sink.new) }
 
+    // With the word `gen`: the made job.
+    ensures made { (seed requests : ℕ) → IsGen words.now seed requests → Writes result (K.written sink.old) (K.written sink.new) (made seed requests) }
+
+    // With the words `gen run`: the end of the report of that job.
+    ensures made_run { (seed requests : ℕ) → IsGenRun words.now seed requests → MadeAnswers result seed requests (K.written sink.old) (K.written sink.new) }
+
+    // Where a job is made, nothing is read.
+    ensures made_unread { Makes words.now → source.new ≡ source.old }
+
     // A fault is told where it was counted.
     ensures read { result ≡ Status.ReadFault → Rose (S.faults source.old) (S.faults source.new) }
     ensures write { result ≡ Status.WriteFault → Rose (K.faults sink.old) (K.faults sink.new) }
     ensures broken { result ≡ Status.Broken → IsAudit words.now }
 {
-    match words {
-        [word] if word.as_str() == "replay" => replay(alloc, source, sink),
-        _ => on_report(alloc, words, source, sink),
+    match form_of(words) {
+        Some(Form::Replay) => replay(alloc, source, sink),
+        Some(Form::Audit) => audit(alloc, source, sink),
+        Some(Form::Show) => show(alloc, source, sink),
+        Some(Form::Gen(seed, requests)) => write_job(seed, requests, sink),
+        Some(Form::GenRun(seed, requests)) => run_made(alloc, seed, requests, sink),
+        None => Status::Usage,
     }
 }

@@ -4,14 +4,7 @@ pub mod Fields
 pub mod Grammar
 pub mod ReportGrammar
 pub mod Spelling
-pub mod Requests
-pub mod Runs
-pub mod Accesses
-pub mod Memory
-pub mod Report
-pub mod Sound
-pub mod Barriers
-pub mod Numbering
+pub mod ReportParts
 pub mod Ranges
 pub mod Opening
 pub mod Front

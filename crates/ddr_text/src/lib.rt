@@ -1,10 +1,9 @@
-//! The lines of traces and reports, and what a report says of a trace.
+//! The lines of traces and reports, and the opening of a job.
 #![tactic(auto)]
 
 mod digits;
 mod fields;
 mod header_text;
-pub mod laws;
 mod lines;
 mod opening;
 #[cfg(test)]

@@ -11,7 +11,7 @@ use Rattle.ddr_io.specs.declared.status.Status.TheVariants as status
 use Rattle.std.proofs.KnownBytes.{Appends-nil}
 use Rattle.ddr_text.specs.Opening.{IsOpening, Accepts, Refuses, opening_of, parts_of}
 use Rattle.ddr_text.specs.Spelling.{report_text, spelled}
-use Rattle.ddr_text.specs.Sound.{Refusal}
+use Rattle.ddr_text.specs.ReportParts.{Refusal}
 use Rattle.ddr_text.specs.declared.lines.ReportLine.{ReportLine}
 use Rattle.ddr_text.specs.declared.opening.Opening.{Opening}
 use Rattle.ddr_text.specs.declared.opening.Opening.TheVariants.{Accepted, Refused as RefusedOpening}

@@ -5,7 +5,7 @@ use Rattle.std.proofs.Math.Seq.{get_or-append_seam}
 use Rattle.command_words.specs.declared.command.Command.{Command}
 use Rattle.ddr_text.specs.declared.lines.ReportLine.{ReportLine}
 use Rattle.ddr_text.specs.declared.lines.ReportLine.TheVariants.{Issued, Value, Flip, Stat, End, Refused}
-use Rattle.ddr_text.specs.Report.{places_of}
+use Rattle.ddr_text.specs.ReportParts.{places_of}
 use Rattle.speed_bin.specs.Log.{Log, Issued as Place}
 use Rattle.speed_bin.specs.Rules.{verdict, verdict_after, verdict_at_end, broken, broken_at_end}
 use Rattle.speed_bin.specs.declared.header.Header.{Header}

@@ -6,8 +6,8 @@ use Rattle.ddr_io.specs.Sink.{AppendsPrefix}
 use Rattle.ddr_io.specs.declared.status.Status.{Status}
 use Rattle.ddr_io.specs.declared.status.Status.TheVariants as status
 use Rattle.ddr_text.specs.Opening.{Opens, Accepts, Refuses, opening_of, parts_of}
-use Rattle.ddr_text.specs.Report.{places_of}
-use Rattle.ddr_text.specs.Sound.{Refusal}
+use Rattle.ddr_text.specs.ReportParts.{places_of}
+use Rattle.ddr_text.specs.ReportParts.{Refusal}
 use Rattle.ddr_text.specs.Spelling.{spaced, spelled}
 use Rattle.ddr_text.specs.declared.lines.ReportLine.{ReportLine}
 use Rattle.ddr_text.specs.declared.lines.ReportLine.TheVariants.{Issued, Value, Flip, Stat, End, Refused as RefusedLine}

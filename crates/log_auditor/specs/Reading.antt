@@ -9,7 +9,7 @@ use Rattle.ddr_io.specs.declared.line_reader.Line.TheVariants.{Text as TextAnswe
 use Rattle.ddr_text.specs.AcceptedReport.{IsReportLine}
 use Rattle.ddr_text.specs.Opening.{parts_of, is_long}
 use Rattle.ddr_text.specs.ReportGrammar.{report_line_of}
-use Rattle.ddr_text.specs.Sound.{Refusal}
+use Rattle.ddr_text.specs.ReportParts.{Refusal}
 use Rattle.ddr_text.specs.declared.lines.LineFault.{LineFault}
 use Rattle.ddr_text.specs.declared.lines.LineFault.TheVariants.{Empty, Letter, Fields, Number, Range, Hex, Word}
 use Rattle.ddr_text.specs.declared.lines.ReportLine.{ReportLine}

@@ -18,9 +18,11 @@ use Rattle.reports.specs.Requests.{Request, requests_from, requests, reads, is_r
 use Rattle.reports.specs.Runs.{Step, Issues, Flips, Run, log_of, is_served, unserved, ready, held}
 use Rattle.reports.specs.Barriers.{bits_of, turned_bits, idle_clocks}
 use Rattle.reports.specs.Offered.{rank, offered, controller_steps}
-use Rattle.reports.specs.Report.{answer, last_clock, flip_lines, latest, report, values, places_of}
+use Rattle.reports.specs.Report.{answer, last_clock, flip_lines, latest, report, values}
 use Rattle.reports.specs.Sound.{Sound, IsRun}
-use Rattle.reports.specs.Whole.{Refusal, refusal_lines, whole}
+use Rattle.reports.specs.Stats.{stats, stat_lines}
+use Rattle.reports.specs.Whole.{whole}
+use Rattle.ddr_text.specs.ReportParts.{Refusal, refusal_lines, places_of}
 use Rattle.reports.proofs.Answered.{values-append, values-map, each_read_answered}
 use Rattle.reports.proofs.Bits.{turned-append, turned-answers, each_flip_turned}
 use Rattle.reports.proofs.Logged.{logged, places_of-append, places_of-answers}
@@ -123,9 +125,19 @@ report-lines h trace run clock r =
     let t : length (turned_bits (report h trace run)) ≡ length (bits_of trace) = ap length (each_flip_turned h trace run clock r) in
     omega (arith, k, p, v, t, length-reads (requests trace), both-lines 1 trace)
 
-whole-lines : (h : Header) (trace : List TraceLine) (run : Run) (clock : ℕ) (refusal : Option Refusal) → length (whole h trace run clock refusal) ≤ length (report h trace run) + 2
-whole-lines h trace run clock None = let k = length-append (report h trace run) (EndLine clock ∷ []) in omega (arith, k)
-whole-lines h trace run clock (Some x) = let k = length-append (report h trace run) (EndLine clock ∷ refusal_lines (Some x)) in omega (arith, k)
+stat-count : (h : Header) (trace : List TraceLine) (run : Run) → length (stats h trace run) ≡ 14
+unfolding stat_lines
+stat-count h trace run = refl
+
+whole-lines : (h : Header) (trace : List TraceLine) (run : Run) (clock : ℕ) (refusal : Option Refusal) → length (whole h trace run clock refusal) ≤ length (report h trace run) + 16
+whole-lines h trace run clock None =
+    let k = length-append (report h trace run ++ stats h trace run) (EndLine clock ∷ []) in
+    let l = length-append (report h trace run) (stats h trace run) in
+    omega (arith, k, l, stat-count h trace run)
+whole-lines h trace run clock (Some x) =
+    let k = length-append (report h trace run ++ stats h trace run) (EndLine clock ∷ refusal_lines (Some x)) in
+    let l = length-append (report h trace run) (stats h trace run) in
+    omega (arith, k, l, stat-count h trace run)
 
 -- ---- Fewer lines than the limit
 

@@ -7,6 +7,7 @@ use Rattle.speed_bin.specs.Rules.{verdict_at_end}
 use Rattle.speed_bin.specs.declared.header.Header.{Header}
 use Rattle.requests.specs.Queue.{shape_of}
 use Rattle.requests.specs.declared.request.Kind.TheVariants.{Read as Reads}
+use Rattle.ddr_text.specs.ReportParts.{places_of}
 use Rattle.ddr_text.specs.declared.lines.TraceLine.{TraceLine}
 use Rattle.reports.specs.Requests.{Request, requests}
 use Rattle.reports.specs.Runs.{Run}
@@ -14,7 +15,7 @@ use Rattle.reports.specs.Accesses.{InOrder}
 use Rattle.reports.specs.Barriers.{bits_of, turned_bits}
 use Rattle.reports.specs.Memory.{memory}
 use Rattle.reports.specs.Readings.{changes_before, reading_of}
-use Rattle.reports.specs.Report.{answers, report, values, places_of}
+use Rattle.reports.specs.Report.{answers, report, values}
 use Rattle.reports.specs.Sound.{AllBounded}
 use Rattle.reports.specs.Tame.{IsTame}
 

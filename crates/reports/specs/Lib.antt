@@ -8,6 +8,7 @@ pub mod Delivered
 pub mod Tame
 pub mod Readings
 pub mod Report
+pub mod Stats
 pub mod Window
 pub mod Sound
 pub mod Whole

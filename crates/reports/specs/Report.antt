@@ -57,12 +57,3 @@ is_value (RefusedLine line reason) = false
 -- the D lines among these
 abbrev pub values : List ReportLine → List ReportLine
 values lines = filter is_value lines
-
-abbrev pub places_of : List ReportLine → List Issued
-places_of [] = []
-places_of (IssuedLine clock command ∷ lines) = record { clock = clock; command = command } ∷ places_of lines
-places_of (ValueLine number line bytes state ∷ lines) = places_of lines
-places_of (FlipLine clock line device bit ∷ lines) = places_of lines
-places_of (StatLine name number ∷ lines) = places_of lines
-places_of (EndLine clock ∷ lines) = places_of lines
-places_of (RefusedLine line reason ∷ lines) = places_of lines

@@ -2,30 +2,20 @@
 use Rattle.std.specs.Prelude.{ℕ, ◌≡◌, ◌≤◌, ◌⊎◌, Option, Some, None, List, [], ◌∷◌, ◌++◌, length, take, codes}
 use Rattle.std.specs.List.{flat_map}
 use Rattle.speed_bin.specs.declared.header.Header.{Header}
+use Rattle.ddr_text.specs.ReportParts.{Refusal, refusal_lines, opening}
 use Rattle.ddr_text.specs.declared.lines.TraceLine.{TraceLine}
 use Rattle.ddr_text.specs.declared.lines.ReportLine.{ReportLine}
 use Rattle.ddr_text.specs.declared.lines.ReportLine.TheVariants.{End as EndLine, Refused as RefusedLine}
 use Rattle.reports.specs.Requests.{requests}
 use Rattle.reports.specs.Runs.{Run, unserved}
 use Rattle.reports.specs.Report.{report}
+use Rattle.reports.specs.Stats.{stats}
 use Rattle.reports.specs.Sound.{Sound, IsRun}
 
--- where a trace line was refused, its number and the reason
-pub record Refusal : Type 0 where
-  pub line : ℕ
-  pub reason : ℕ
-
-abbrev pub refusal_lines : Option Refusal → List ReportLine
-refusal_lines None = []
-refusal_lines (Some x) = RefusedLine x.line x.reason ∷ []
-
--- the lines of a report behind the line `---`: those of the run, the E line, and the X line where there is a refusal
+-- the lines of a report behind the line `---`: those of the run, the S lines, the E line, and the X line where there is a
+-- refusal
 abbrev pub whole : Header → List TraceLine → Run → ℕ → Option Refusal → List ReportLine
-whole h trace run clock refusal = report h trace run ++ EndLine clock ∷ refusal_lines refusal
-
--- the header text, and the line `---`
-abbrev pub opening : List ℕ → List ℕ
-opening header = header ++ codes "---\n"
+whole h trace run clock refusal = (report h trace run ++ stats h trace run) ++ EndLine clock ∷ refusal_lines refusal
 
 -- These bytes are a report of the trace, under this header with this text, where each line is spelled so.
 abbrev pub IsReportOf : (ReportLine → List ℕ) → Header → List ℕ → List TraceLine → Option Refusal → List ℕ → Type 0

@@ -26,6 +26,7 @@ ghost use Rattle.ddr_text.specs.declared.lines.TraceLine.TheVariants.{Flip, Idle
 ghost use Rattle.ddr_text.specs.declared.lines.ReportLine.{ReportLine};
 ghost use Rattle.ddr_text.specs.declared.lines.ReportLine.TheVariants.{Flip as FlipLine};
 ghost use Rattle.ddr_text.specs.Grammar.{trace_line_of};
+ghost use Rattle.ddr_text.specs.ReportParts.{Refusal, places_of};
 ghost use Rattle.reports.specs.Requests.{Request, request_of, requests, flip_of, flips};
 ghost use Rattle.reports.specs.Runs.{Served, Step, Issues, Flips, Run, log_of, is_served, unserved, flipped, Serves, IsNext, IsThrough, ready, held};
 ghost use Rattle.reports.specs.Accesses.{IsColumn, InOrder, BeginsInOrder};
@@ -33,11 +34,11 @@ ghost use Rattle.reports.specs.Barriers.{bits_of, turned_bits, idle_clocks, IsId
 ghost use Rattle.reports.specs.Delivered.{bytes_for, device_steps, IsInside, AreInside};
 ghost use Rattle.reports.specs.Offered.{asked, offered, rank, ranked, controller_steps};
 ghost use Rattle.reports.specs.Readings.{changes_before, reading_of};
-ghost use Rattle.reports.specs.Report.{answers, issued_line, last_clock, latest, report, values, places_of};
+ghost use Rattle.reports.specs.Report.{answers, issued_line, last_clock, latest, report, values};
 ghost use Rattle.reports.specs.Tame.{IsTame};
 ghost use Rattle.reports.specs.Sound.{IsSoundPlace, Sound, IsShort, IsRun, AllBounded};
 ghost use Rattle.reports.specs.Headline.{IsRight, Headline};
-ghost use Rattle.reports.specs.Whole.{Refusal, whole};
+ghost use Rattle.reports.specs.Whole.{whole};
 ghost use Rattle.reports.specs.Window.{reach, window, candidates, queued};
 ghost use Rattle.reports.specs.Underway.{Ahead, Unknown, Next, Ended, IsUnderway, IsIssued, IsEnded, issue};
 

@@ -1,12 +1,19 @@
+mod Closing
+mod Counting
 pub mod Agreeing
-pub mod Gaps
-pub mod Issuing
-pub mod Rows
-pub mod Turns
-pub mod Work
-pub mod Offers
-pub mod Requests
-pub mod Steps
+mod Finishing
+mod Issuing
+mod Answering
+mod Delivering
+mod Noting
 pub mod Pieces
-pub mod Reported
-mod TraceParts
+pub mod TraceParts
+mod Fronts
+mod LoopAnswers
+mod LoopServed
+mod LoopEnd
+mod LoopOpened
+mod LoopTrace
+mod Passed
+mod Taken
+pub mod Under

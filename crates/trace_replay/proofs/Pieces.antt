@@ -1,23 +1,14 @@
 -- Pieces that are written one behind the other.
-use Rattle.std.proofs.Common.{◌≡◌, ◌∙◌, ℕ, suc, ◌+◌, ◌<◌, inl, inr, Option, List, [], ◌∷◌, ◌++◌, take, drop, length, get_or, sym, ap, subst, arith, append-nil, length-append, zero-add, Result, Ok, Err, OnOk, IfErr}
+use Rattle.std.proofs.Common.{◌≡◌, ◌∙◌, ℕ, suc, ◌+◌, ◌<◌, Option, List, [], ◌∷◌, ◌++◌, take, drop, length, get_or, sym, ap, subst, arith, append-nil, length-append, zero-add, Result, Ok, Err, OnOk, IfErr}
 use Rattle.std.specs.List.{flat_map}
 use Rattle.std.specs.Io.KnownBytes.{Appends}
-use Rattle.std.proofs.KnownBytes.{Appends-trans, Appends-nil}
+use Rattle.std.proofs.KnownBytes.{Appends-trans}
 use Rattle.std.proofs.lemmas.List.{take_all, take_more, take-append-drop, take-append-le}
 use Rattle.std.proofs.lemmas.Grind.{flat_map-append}
 use Rattle.ddr_io.specs.Sink.{AppendsPrefix}
-use Rattle.ddr_text.specs.declared.lines.TraceLine.{TraceLine}
 use Rattle.ddr_text.specs.declared.lines.ReportLine.{ReportLine}
-use Rattle.ddr_text.specs.declared.lines.ReportLine.TheVariants.{End}
-use Rattle.ddr_text.specs.Report.{report}
-use Rattle.ddr_text.specs.Runs.{Run}
-use Rattle.ddr_text.specs.Sound.{IsRun}
 use Rattle.std.specs.Prelude.{codes}
 use Rattle.ddr_text.specs.Spelling.{spelled, report_text}
-use Rattle.trace_replay.specs.Progress.{Holds, lines_of_turn}
-use Rattle.trace_replay.specs.Writing.{Serves, BeginsToServe, served_lines}
-use Rattle.speed_bin.specs.declared.header.Header.{Header}
-use Rattle.trace_replay.specs.declared.progress.Progress.{Progress}
 
 pub some_bytes : (line : ReportLine) → 0 < length (spelled line)
 unfolding spelled
@@ -55,42 +46,6 @@ lines-cut a b c lines i line low is h cut =
     let whole : (first ++ spelled line) ++ flat_map spelled (drop (i + 1) lines) ≡ flat_map spelled lines
     = ap (λ l. l ++ flat_map spelled (drop (i + 1) lines)) (sym (lines-more lines i line low is)) ∙ sym (flat_map-append spelled (take (i + 1) lines) (drop (i + 1) lines)) ∙ ap (flat_map spelled) (take-append-drop (i + 1) lines) in
     subst (AppendsPrefix a c) whole (prefix-longer a c (first ++ spelled line) (flat_map spelled (drop (i + 1) lines)) (prefix-behind a b c first (spelled line) h cut))
-
--- ---- The lines of a run
-
--- a run that holds, and whose report was written
-pub record Written (header : Header) (trace : List TraceLine) (p : Progress) (before now : Option (List ℕ)) : Type 0 where
-  pub run : Run
-  pub holds : Holds header trace p run
-  pub written : Appends before now (flat_map spelled (report trace run))
-
-pub written-more : (header : Header) (trace : List TraceLine) (p next : Progress) (before now later : Option (List ℕ)) (w : Written header trace p before now) → ((run : Run) × Holds header trace next run × (report trace run ≡ report trace w.run ++ lines_of_turn next)) → Appends now later (flat_map spelled (lines_of_turn next)) → Written header trace next before later
-written-more header trace p next before now later w (run, holds, is) h = record {
-  run = run;
-  holds = holds;
-  written = subst (Appends before later) (sym (ap (flat_map spelled) is ∙ flat_map-append spelled (report trace w.run) (lines_of_turn next))) (Appends-trans before now later (flat_map spelled (report trace w.run)) (flat_map spelled (lines_of_turn next)) w.written h);
-}
-
-pub begins-turn : (header : Header) (trace : List TraceLine) (p next : Progress) (before now later : Option (List ℕ)) (w : Written header trace p before now) → ((run : Run) × Holds header trace next run × (report trace run ≡ report trace w.run ++ lines_of_turn next)) → AppendsPrefix now later (flat_map spelled (lines_of_turn next)) → BeginsToServe header trace before later
-begins-turn header trace p next before now later w (run, holds, is) cut =
-    inl (run, holds.sound, subst (AppendsPrefix before later) (sym (ap (flat_map spelled) is ∙ flat_map-append spelled (report trace w.run) (lines_of_turn next))) (prefix-behind before now later (flat_map spelled (report trace w.run)) (flat_map spelled (lines_of_turn next)) w.written cut))
-
-pub begins-here : (header : Header) (trace : List TraceLine) (p : Progress) (before now : Option (List ℕ)) → Written header trace p before now → BeginsToServe header trace before now
-begins-here header trace p before now w = inl (w.run, w.holds.sound, prefix-whole before now (flat_map spelled (report trace w.run)) w.written)
-
-pub begins-nothing : (header : Header) (trace : List TraceLine) (before : Option (List ℕ)) → BeginsToServe header trace before before
-begins-nothing header trace before = inl ([], tt, prefix-whole before before [] (Appends-nil before))
-
-served_bytes : (trace : List TraceLine) (run : Run) (clock : ℕ) → flat_map spelled (served_lines trace run clock) ≡ flat_map spelled (report trace run) ++ spelled (End clock)
-served_bytes trace run clock = flat_map-append spelled (report trace run) (End clock ∷ []) ∙ ap (λ l. flat_map spelled (report trace run) ++ l) (append-nil (spelled (End clock)))
-
-pub serves-end : (header : Header) (trace : List TraceLine) (p : Progress) (before now later : Option (List ℕ)) (clock : ℕ) (w : Written header trace p before now) → IsRun header trace w.run clock → Appends now later (spelled (End clock)) → Serves header trace before later
-serves-end header trace p before now later clock w is h =
-    (w.run, clock, is, subst (Appends before later) (sym (served_bytes trace w.run clock)) (Appends-trans before now later (flat_map spelled (report trace w.run)) (spelled (End clock)) w.written h))
-
-pub begins-end : (header : Header) (trace : List TraceLine) (p : Progress) (before now later : Option (List ℕ)) (clock : ℕ) (w : Written header trace p before now) → IsRun header trace w.run clock → AppendsPrefix now later (spelled (End clock)) → BeginsToServe header trace before later
-begins-end header trace p before now later clock w is cut =
-    inr (w.run, clock, is, subst (AppendsPrefix before later) (sym (served_bytes trace w.run clock)) (prefix-behind before now later (flat_map spelled (report trace w.run)) (spelled (End clock)) w.written cut))
 
 -- ---- By the answer
 

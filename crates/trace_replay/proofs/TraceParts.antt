@@ -1,29 +1,28 @@
 -- The trace of a job, line by line.
-use Rattle.std.proofs.Common.{◌≡◌, ◌≢◌, ℕ, ◌+◌, ◌<◌, ◌≤◌, Bool, true, false, if◌then◌else◌, nat_le, List, [], ◌∷◌, ◌++◌, length, take, drop, get_or, refl, sym, ap, ◌∙◌, subst, arith, append_assoc, length-append, length-take-le, take-append-drop, sum, Option, Some, None, IfSome, IfOk, Result, Ok, Err}
+use Rattle.std.proofs.Common.{◌≡◌, ◌≢◌, ℕ, ◌+◌, ◌<◌, ◌≤◌, Bool, true, false, if◌then◌else◌, List, [], ◌∷◌, ◌++◌, length, take, drop, get_or, refl, sym, ap, ◌∙◌, arith, append_assoc, length-append, length-take-le, take-append-drop, Option, Some, None, IfSome, Result, Ok, Err}
 use Rattle.std.specs.List.{All, slice_split, onto_first}
-use Rattle.std.proofs.lemmas.Bool.{ne_eqb, le-ltb, lt-ltb, lt-leb}
+use Rattle.std.proofs.lemmas.Bool.{ne_eqb, le-ltb, lt-ltb}
 use Rattle.std.proofs.lemmas.List.Splits.{slice_split_at, slice_split_none, slice_split-cons_yes, slice_split-cons_no}
 use Rattle.std.proofs.lemmas.List.Elements.{All-head, All-tail}
 use Rattle.command_words.specs.Geometry.{Shape}
 use Rattle.ddr_io.specs.Line.{HasNoFeed, IsNextLine}
 use Rattle.ddr_io.specs.declared.line_reader.Line.TheVariants.{Text, End as EndLine, TooLong, Unended}
 use Rattle.ddr_text.specs.Accepted.{IsTraceLine}
-use Rattle.ddr_text.specs.Barriers.{idle_clocks}
 use Rattle.ddr_text.specs.Grammar.{trace_line_of}
 use Rattle.ddr_text.specs.Opening.{is_feed, parts_of, with_feed, is_long}
-use Rattle.ddr_text.specs.declared.lines.LineFault.{LineFault}
 use Rattle.ddr_text.specs.declared.lines.TraceLine.{TraceLine}
 use Rattle.ddr_text.specs.declared.lines.TraceLine.TheVariants.{Read, Write, Flip, Idle}
-use Rattle.trace_replay.specs.Job.{trace_from, with_line, with_text, with_part, if_read, is_full, continued, at_end, refused_behind}
-use Rattle.trace_replay.specs.Reading.{is_served, extended, Continues, Ends}
-use Rattle.trace_replay.specs.Trace.{MOST, IsRequest, AreRequests}
+use Rattle.trace_replay.specs.Job.{MOST, clocks_of, trace_from, with_text, with_part, if_read, is_full, continued, extended, at_end, refused_behind}
+use Rattle.trace_replay.specs.Reading.{Continues, Ends, IsMore, HasBytes}
+use Rattle.reports.specs.Delivered.{IsInside}
+use Rattle.trace_replay.specs.declared.trace_lines.Tally.{Tally}
 
 -- ---- Parts
 
-not_feed : (x : ℕ) → x ≢ 10 → is_feed x ≡ false
+pub not_feed : (x : ℕ) → x ≢ 10 → is_feed x ≡ false
 not_feed x other = ne_eqb x 10 other
 
-no_feeds : (xs : List ℕ) → HasNoFeed xs → All (λ x. is_feed x ≡ false) xs
+pub no_feeds : (xs : List ℕ) → HasNoFeed xs → All (λ x. is_feed x ≡ false) xs
 no_feeds xs clean = λ i d low. not_feed (get_or xs i d) (clean i d low)
 
 -- bytes have a first part
@@ -76,12 +75,20 @@ step g trace bytes rest line answer next is =
     ap (λ l. trace_from g trace (parts_of l)) next.2 ∙ line_step g trace line rest next.1 next.0
     ∙ ap (λ r. continued trace r (λ longer. trace_from g longer (parts_of rest))) (sym is)
 
+-- whatever follows the line
+step_more : (g : Shape) (trace : List TraceLine) (more line : List ℕ) (served : TraceLine) (answer : Result TraceLine ℕ) → HasNoFeed line → length line < 512 → answer ≡ Ok served
+    → extended trace answer ≡ with_text g trace line → trace_from g trace (parts_of (with_feed line ++ more)) ≡ trace_from g (trace ++ served ∷ []) (parts_of more)
+step_more g trace more line served answer clean few found is =
+    line_step g trace line more clean few
+    ∙ ap (λ r. continued trace r (λ longer. trace_from g longer (parts_of more))) (sym is)
+    ∙ ap (λ a. continued trace (extended trace a) (λ longer. trace_from g longer (parts_of more))) found
+
 pub next_served : (g : Shape) (trace : List TraceLine) (old new : Option (List ℕ)) (line : List ℕ) (served : TraceLine) (answer : Result TraceLine ℕ) → IsNextLine old new line Text
     → answer ≡ Ok served → extended trace answer ≡ with_text g trace line → Continues g trace old (trace ++ served ∷ []) new
 next_served g trace None new line served answer next found is = tt
 next_served g trace (Some bytes) None line served answer next found is = absurd next.2
 next_served g trace (Some bytes) (Some rest) line served answer next found is =
-    step g trace bytes rest line answer next is ∙ ap (λ a. continued trace (extended trace a) (λ longer. trace_from g longer (parts_of rest))) found
+    (with_feed line, next.2, λ more. step_more g trace more line served answer next.1 next.0 found is)
 
 pub next_refused : (g : Shape) (trace : List TraceLine) (old new : Option (List ℕ)) (line : List ℕ) (reason : ℕ) (answer : Result TraceLine ℕ) → IsNextLine old new line Text
     → answer ≡ Err reason → extended trace answer ≡ with_text g trace line → IfSome old (λ bytes. trace_from g trace (parts_of bytes) ≡ refused_behind trace reason)
@@ -135,36 +142,13 @@ next_end g trace None new line next = tt
 next_end g trace (Some bytes) None line next = absurd next.1
 next_end g trace (Some bytes) (Some rest) line next = (ap (λ l. trace_from g trace (slice_split is_feed l)) next.0, ap Some (next.1 ∙ next.0))
 
--- ---- What a text says
+-- ---- A line more
 
-no_idle : (g : Shape) (trace : List TraceLine) → AreRequests g trace → idle_clocks trace ≡ []
-no_idle g [] are = refl
-no_idle g (Read line ∷ trace) are = no_idle g trace (All-tail (IsRequest g) (Read line) trace are)
-no_idle g (Write line bytes ∷ trace) are = no_idle g trace (All-tail (IsRequest g) (Write line bytes) trace are)
-no_idle g (Flip line device bit ∷ trace) are = absurd (All-head (IsRequest g) (Flip line device bit) trace are)
-no_idle g (Idle clocks ∷ trace) are = absurd (All-head (IsRequest g) (Idle clocks) trace are)
-
-unserved : (g : Shape) (trace : List TraceLine) (line : TraceLine) → AreRequests g trace → IsTraceLine g line → is_served line ≡ false → with_line trace line ≡ Err 20
-unserved g trace (Read line) are is other = absurd (let no : ⊥ = cc in no)
-unserved g trace (Write line bytes) are is other = absurd (let no : ⊥ = cc in no)
-unserved g trace (Flip line device bit) are is other = refl
-unserved g trace (Idle clocks) are is other =
-    let none : sum (idle_clocks trace) ≡ 0 = ap sum (no_idle g trace are) in
-    ap (λ b. Err (if b then 10 else 20)) (le-ltb 4294967296 (sum (idle_clocks trace) + clocks) (omega (arith, none, is)))
-
-within : (g : Shape) (trace : List TraceLine) (text : List ℕ) (r : Result TraceLine LineFault) → length trace < MOST → trace_line_of g text ≡ r → with_text g trace text ≡ if_read trace r
-within g trace text r few is =
-    ap (λ b. if b then Err 9 else if_read trace (trace_line_of g text)) (not_full (length trace) few) ∙ ap (if_read trace) is
+pub more-of : (g : Shape) (tally : Tally) (line : TraceLine) → IsTraceLine g line → HasBytes line → tally.lines < MOST → tally.clocks + clocks_of line ≤ 4294967296 → IsMore g tally line
+more-of g tally line is bytes few idle = record { inside = inside_of line is bytes; few = few; idle = idle }
   where
-    not_full : (n : ℕ) → n < MOST → nat_le MOST n ≡ false
-    not_full n few = lt-leb MOST n few
-
-pub text_unserved : (g : Shape) (trace : List TraceLine) (text : List ℕ) (line : TraceLine) → length trace < MOST → trace_line_of g text ≡ Ok line → IsTraceLine g line → AreRequests g trace
-    → is_served line ≡ false → with_text g trace text ≡ Err 20
-text_unserved g trace text line few is in_range are other = within g trace text (Ok line) few is ∙ unserved g trace line are in_range other
-
-pub if_served : (g : Shape) (r : Result TraceLine ℕ) (line : TraceLine) → r ≡ Ok line → IfOk r (IsRequest g) → IsRequest g line
-if_served g r line is h = subst (λ (o : Result TraceLine ℕ). IfOk o (IsRequest g)) is h
-
-pub if_fewer : (trace : List TraceLine) (r : Result TraceLine ℕ) (line : TraceLine) → r ≡ Ok line → IfOk r (λ l. length trace < MOST) → length trace < MOST
-if_fewer trace r line is h = subst (λ (o : Result TraceLine ℕ). IfOk o (λ l. length trace < MOST)) is h
+    inside_of : (l : TraceLine) → IsTraceLine g l → HasBytes l → IsInside g l
+    inside_of (Read line) is bytes = is
+    inside_of (Write line brought) is bytes = (is, bytes)
+    inside_of (Flip line device bit) is bytes = is
+    inside_of (Idle clocks) is bytes = tt

@@ -1,13 +1,11 @@
--- What a job says behind its opening: its trace, which is the served lines from the first on, and the reason to refuse the
--- line behind them. `docs/FORMATS.md` has the same in words.
-use Rattle.std.specs.Prelude.{ℕ, ◌≡◌, ◌+◌, ◌++◌, nat_le, nat_lt, Bool, if◌then◌else◌, List, [], ◌∷◌, length, sum, Some, None, Result, Ok, Err}
+-- What a job says behind its opening: its trace, which is its lines from the first on, and the reason to refuse the line
+-- behind them. `docs/FORMATS.md` has the same in words.
+use Rattle.std.specs.Prelude.{ℕ, ⊤, ◌≡◌, ◌≤◌, ◌+◌, ◌++◌, nat_le, nat_lt, Bool, if◌then◌else◌, List, [], ◌∷◌, length, sum, Some, None, Result, Ok, Err}
 use Rattle.std.specs.declared.option.Option.{Option}
 use Rattle.command_words.specs.Geometry.{Shape}
 use Rattle.command_words.specs.declared.words.WordFault.TheVariants as word
-use Rattle.ddr_text.specs.Barriers.{idle_clocks}
 use Rattle.ddr_text.specs.Grammar.{trace_line_of}
 use Rattle.ddr_text.specs.Opening.{parts_of, is_long, IsReason, Accepts, Refuses, opening_of}
-use Rattle.ddr_text.specs.Sound.{shape_of}
 use Rattle.ddr_text.specs.declared.lines.LineFault.{LineFault}
 use Rattle.ddr_text.specs.declared.lines.LineFault.TheVariants.{Empty, Letter, Fields, Number, Range, Hex, Word}
 use Rattle.ddr_text.specs.declared.lines.TraceLine.{TraceLine}
@@ -15,7 +13,13 @@ use Rattle.ddr_text.specs.declared.lines.TraceLine.TheVariants.{Read, Write, Fli
 use Rattle.speed_bin.specs.Document.{header_stated}
 use Rattle.speed_bin.specs.Header.{IsAccepted}
 use Rattle.speed_bin.specs.declared.header.Header.{Header}
-use Rattle.trace_replay.specs.Trace.{MOST}
+use Rattle.requests.specs.Queue.{shape_of}
+use Rattle.reports.specs.Barriers.{idle_clocks}
+use Rattle.reports.specs.Delivered.{AreInside}
+
+-- a trace has at most so many lines
+abbrev pub MOST : ℕ
+MOST = 1048576
 
 -- ---- One line
 
@@ -33,16 +37,16 @@ fault_reason (Word word.SecondExtra) = 33
 fault_reason (Word word.Reserved) = 34
 fault_reason (Word word.Range) = 35
 
--- why an I line that is in the grammar is refused behind these lines: the sum of all, or else that none is served yet
-abbrev pub idle_reason : List TraceLine → ℕ → ℕ
-idle_reason trace clocks = if nat_lt 4294967296 (sum (idle_clocks trace) + clocks) then 10 else 20
+-- the clocks that a line lets pass
+abbrev pub clocks_of : TraceLine → ℕ
+clocks_of (Read line) = 0
+clocks_of (Write line bytes) = 0
+clocks_of (Flip line device bit) = 0
+clocks_of (Idle clocks) = clocks
 
--- the trace with this line more, or the reason to refuse it; no F or I line is served yet
+-- the trace with this line more, or the reason to refuse it: the sum of the I lines
 abbrev pub with_line : List TraceLine → TraceLine → Result (List TraceLine) ℕ
-with_line trace (Read line) = Ok (trace ++ Read line ∷ [])
-with_line trace (Write line bytes) = Ok (trace ++ Write line bytes ∷ [])
-with_line trace (Flip line device bit) = Err 20
-with_line trace (Idle clocks) = Err (idle_reason trace clocks)
+with_line trace line = if nat_lt 4294967296 (sum (idle_clocks trace) + clocks_of line) then Err 10 else Ok (trace ++ line ∷ [])
 
 abbrev pub if_read : List TraceLine → Result TraceLine LineFault → Result (List TraceLine) ℕ
 if_read trace (Ok line) = with_line trace line
@@ -60,9 +64,14 @@ with_text g trace text = if is_full trace then Err 9 else if_read trace (trace_l
 abbrev pub with_part : Shape → List TraceLine → List ℕ → Result (List TraceLine) ℕ
 with_part g trace part = if is_full trace then Err 9 else if is_long part then Err 7 else if_read trace (trace_line_of g part)
 
+-- the trace with the line that was found, or the reason that there is none
+abbrev pub extended : List TraceLine → Result TraceLine ℕ → Result (List TraceLine) ℕ
+extended trace (Ok line) = Ok (trace ++ line ∷ [])
+extended trace (Err reason) = Err reason
+
 -- ---- All lines
 
--- the lines that are served, and the reason to refuse the line behind them, where there is one
+-- the lines, and the reason to refuse the line behind them, where there is one
 pub record Traced : Type 0 where
   pub lines : List TraceLine
   pub refused : Option ℕ
@@ -94,15 +103,32 @@ trace_of g bytes = trace_from g [] (parts_of bytes)
 
 -- ---- A whole job
 
--- The known bytes open a job with this header and this text, and behind it stand this trace and this refusal. Where nothing
--- is refused, none is left.
-abbrev pub IsJobOf : Option (List ℕ) → Option (List ℕ) → Header → List ℕ → List TraceLine → Option ℕ → Type 0
-IsJobOf None new header text trace refused = IsAccepted header × (header_stated text ≡ Ok header)
-IsJobOf (Some bytes) new header text trace refused =
+-- The known bytes open a job with this header and this text, and behind it stand this trace and this refusal.
+abbrev pub IsJobOf : Option (List ℕ) → Header → List ℕ → List TraceLine → Option ℕ → Type 0
+IsJobOf None header text trace refused = IsAccepted header × (header_stated text ≡ Ok header)
+IsJobOf (Some bytes) header text trace refused =
     (rest : List ℕ) × (opening_of bytes ≡ Accepts header text rest)
-    × (trace_of (shape_of header) rest ≡ record { lines = trace; refused = refused }) × (refused ≡ None → new ≡ Some [])
+    × (trace_of (shape_of header) rest ≡ record { lines = trace; refused = refused })
+
+-- the same of the bytes that were taken, where some are left: the trace is the lines that lie whole in them
+abbrev pub IsPartOf : Option (List ℕ) → Option (List ℕ) → Header → List ℕ → List TraceLine → Type 0
+IsPartOf None left header text trace = IsAccepted header × (header_stated text ≡ Ok header)
+IsPartOf (Some bytes) None header text trace = ⊥
+IsPartOf (Some bytes) (Some left) header text trace =
+    (taken : List ℕ) × (opening_of bytes ≡ Accepts header text (taken ++ left)) × ((trace_of (shape_of header) taken).lines ≡ trace)
+
+-- none of the known bytes is left
+abbrev pub IsUsedUp : Option (List ℕ) → Option (List ℕ) → Type 0
+IsUsedUp None left = ⊤
+IsUsedUp (Some bytes) left = left ≡ Some []
 
 -- the opening of the known bytes is refused with this reason
 abbrev pub IsNoJob : Option (List ℕ) → ℕ → Type 0
 IsNoJob None reason = IsReason reason
 IsNoJob (Some bytes) reason = opening_of bytes ≡ Refuses reason
+
+-- a trace within its limits: its lines are of the subchannel, not too many, and the sum of its I lines is not too great
+pub record IsTrace (g : Shape) (trace : List TraceLine) : Type 0 where
+  pub inside : AreInside g trace
+  pub few : length trace ≤ MOST
+  pub idle : sum (idle_clocks trace) ≤ 4294967296

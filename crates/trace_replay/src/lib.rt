@@ -1,23 +1,29 @@
 //! The replay: reads a job, serves its trace, and writes its report.
 #![tactic(auto)]
 
-mod banks;
-mod controller;
+mod answers;
+mod barriers;
+mod counts;
 mod coupled;
 #[cfg(test)]
 mod coupled_tests;
-mod job;
+mod ending;
+mod held;
+#[cfg(test)]
+mod held_tests;
 mod progress;
 #[cfg(test)]
 mod refusal_tests;
-mod register_writes;
 mod replay_loop;
-mod request;
 mod stop;
-mod store;
 #[cfg(test)]
 mod tests;
+mod trace_lines;
+mod turns;
 mod writing;
 
+pub use counts::Counts;
 pub use coupled::Coupled;
-pub use replay_loop::replay;
+pub use ending::Ending;
+pub use replay_loop::{Ended, replay, run_job};
+pub use stop::Stop;

@@ -1,190 +1,295 @@
-//! The run of a trace, turn by turn.
-ghost use Rattle.std.specs.Prelude.{ℕ, ◌≡◌, ◌+◌, ◌-◌, ◌*◌, ◌<◌, ◌≤◌, [], ◌∷◌, ◌++◌, true, false, Some, take, length, slice_get, IfOk, OnOk};
+//! A replay under way: what it keeps, and how it reads trace lines and offers their requests.
+ghost use Rattle.std.specs.Prelude.{ℕ, ◌≡◌, ◌<◌, ◌≤◌, ◌+◌, List, Option, [], ◌∷◌, ◌++◌, length, is_some, true, false, IfOk, IfErr, OnOk, IfSome, IfNone};
 ghost use Rattle.speed_bin.specs.Header.{IsAccepted};
-ghost use Rattle.speed_bin.specs.declared.header.Header.{Header as HeaderOf};
-ghost use Rattle.ddr_text.specs.Requests.{requests};
-ghost use Rattle.ddr_text.specs.Runs.{Run};
-ghost use Rattle.ddr_text.specs.Sound.{shape_of};
-ghost use Rattle.command_words.specs.Geometry.{Shape};
-ghost use Rattle.ddr_text.specs.Memory.{written};
-ghost use Rattle.trace_replay.specs.Store.{held_in};
-ghost use Rattle.trace_replay.specs.Turn.{value_for, offer_of};
-ghost use Rattle.trace_replay.specs.Trace.{IsRequest, AreRequests, MOST};
-ghost use Rattle.trace_replay.specs.Controller.{StandsFor, waits, is_finished, now_of as controller_now, work_of as controller_work};
+ghost use Rattle.speed_bin.specs.declared.header.Header.{Header as AnyHeader};
+ghost use Rattle.ddr_io.specs.Line.{next_bytes};
+ghost use Rattle.ddr_io.specs.declared.line_reader.Line.{Line as AnyEnd};
+ghost use Rattle.ddr_text.specs.declared.lines.TraceLine.{TraceLine as AnyLine};
+ghost use Rattle.ddr_text.specs.declared.lines.ReportLine.TheVariants.{End as EndLine};
+ghost use Rattle.requests.specs.Queue.{waiting, IsFull};
+ghost use Rattle.reports.specs.Requests.{request_of as asks_for};
+ghost use Rattle.reports.specs.Runs.{Run, ready};
+ghost use Rattle.reports.specs.Offered.{offered, controller_steps};
+ghost use Rattle.reports.specs.Report.{answers};
+ghost use Rattle.reports.specs.Stats.{stats};
+ghost use Rattle.ddr_text.specs.ReportParts.{refusal_lines};
+ghost use Rattle.reports.specs.Underway.{IsOffered};
+ghost use Rattle.trace_replay.specs.Coupled.{from_of, finished_of};
+ghost use Rattle.trace_replay.specs.Ending.{end_lines, reason_in};
+ghost use Rattle.trace_replay.specs.Replay.{refusal_of};
+ghost use Rattle.trace_replay.specs.Job.{MOST};
+ghost use Rattle.trace_replay.specs.Progress.{Holds, IsUnder, IsReady, IsLeftOff, IsKnown, MayGoOn, Asks, IsAsked, Refuses, tally_with, taken, following, left_of, found_as};
+ghost use Rattle.trace_replay.specs.Stop.{ReadCause};
 
-use crate::controller::Controller;
-use crate::request::{Kind, Request, RequestId, Turn};
-use crate::store::Store;
-use command_words::Command;
-use ddr_io::OutOfMemory;
-use ddr_text::{ReportLine, TraceLine};
-use ondie_ecc::ReadState;
+use crate::Coupled;
+use crate::counts::Counts;
+use crate::ending::Ending;
+use crate::held::{Held, HeldRequest, Outcome};
+use crate::stop::Stop;
+use crate::trace_lines::{Next, Tally, next_line};
+use command_words::{Geometry, LineAddr};
+use ddr_io::{LineReader, OutOfMemory, Source};
+use ddr_text::TraceLine;
+use requests::{Kind, Request};
+use scheduler::Clock;
 use speed_bin::Header;
 use std::alloc::Global;
 
-/// What a run has come to.
+/// What is known of the line behind those that were taken.
+#[derive(Clone, Copy, Drop)]
+pub(crate) enum Ahead {
+    /// It was not asked for.
+    Unknown,
+    /// It is this one: a request that came back, or an F or I line.
+    Waits(TraceLine),
+    /// It is an I line, whose clocks pass.
+    Passes(u64),
+    /// There is none.
+    End,
+    /// It is refused with this reason.
+    Refused(u8),
+}
+
+/// A replay under way.
 #[derive(Drop)]
-pub struct Progress {
-    controller: Controller,
-    store: Store,
-    // how many lines of the trace were offered
-    offered: usize,
-    // the report's lines of the last turn
-    lines: Vec<ReportLine>,
+pub(crate) struct Progress {
+    pub(crate) coupled: Coupled,
+    pub(crate) g: Geometry,
+    pub(crate) held: Held,
+    pub(crate) ahead: Ahead,
+    // of the lines that were taken
+    pub(crate) tally: Tally,
+    // how many commands were issued, and the clock of the last one
+    pub(crate) commands: u64,
+    pub(crate) last: Clock,
+    pub(crate) counts: Counts,
+}
+
+// What was found is the line ahead.
+fn found(next: Next) -> Ahead
+    ensures { result ≡ found_as next }
+{
+    match next {
+        Next::Found(line) => Ahead::Waits(line),
+        Next::End => Ahead::End,
+        Next::Refused(reason) => Ahead::Refused(reason),
+    }
+}
+
+// The same request once more.
+fn again(request: &Request) -> Request
+    ensures { result ≡ request.now }
+{
+    Request {
+        line: request.line,
+        kind: request.kind,
+    }
+}
+
+// What a trace line asks for, and the bytes that a write brings.
+fn asked(line: &TraceLine) -> Option<(Request, Option<[u8; 64]>)>
+    ensures some { IfSome result (λ it. Asks line.now it.0 it.1) }
+    ensures none { IfNone result ((n : ℕ) → asks_for n line.now ≡ []) }
+{
+    match line {
+        TraceLine::Read(line) => Some((request_of(*line, Kind::Read), None)),
+        TraceLine::Write(line, bytes) => Some((request_of(*line, Kind::Write), Some(*bytes))),
+        TraceLine::Flip(_, _, _) => None,
+        TraceLine::Idle(_) => None,
+    }
+}
+
+fn request_of(line: LineAddr, kind: Kind) -> Request
+    ensures { result ≡ record { line = line; kind = kind } }
+{
+    Request { line, kind }
 }
 
 impl Progress {
-    ghost use Rattle.trace_replay.specs.Progress.{Holds, After, Shows, IsWithin, work_of, now_of, lines_of_turn};
-
-    /// Before the first turn.
-    pub fn new(alloc: Global, header: &Header, trace: &[TraceLine]) -> Result<Progress, OutOfMemory>
+    /// A replay before its first turn.
+    pub(crate) fn new(alloc: Global, header: &Header) -> Result<Progress, OutOfMemory>
         requires { IsAccepted header.now }
-        ensures { IfOk result (λ p. Holds header.now trace.now p []) }
+        ensures holds { IfOk result (λ p. Holds header.now p [] []) }
+        ensures ahead { IfOk result (λ p. p.ahead ≡ Ahead.Unknown) }
     {
+        reports::laws::begins_a_run();
         Ok(Progress {
-            controller: Controller::new(alloc, header)?,
-            store: Store::new(alloc),
-            offered: 0,
-            lines: Vec::new(alloc),
+            coupled: Coupled::new(alloc, header)?,
+            g: header.geometry(),
+            held: Held::new(alloc)?,
+            ahead: Ahead::Unknown,
+            tally: Tally {
+                lines: 0,
+                clocks: 0,
+            },
+            commands: 0,
+            last: 0,
+            counts: Counts::new(),
         })
     }
 
-    /// The report's lines of the last turn.
-    pub fn lines(&self) -> &[ReportLine]
-        ensures { result.now ≡ lines_of_turn self.now }
+    /// What ends the report of the run so far.
+    pub(crate) fn ending(&self) -> Ending
+        requires { (h : AnyHeader) × (trace : List AnyLine) × (run : Run) × Holds h self.now trace run }
+        ensures lines { (h : AnyHeader) (trace : List AnyLine) (run : Run) → Holds h self.now trace run
+            → end_lines result ≡ stats h trace run ++ EndLine (from_of self.now.coupled) ∷ refusal_lines (refusal_of trace (reason_in self.now.ahead)) }
+        ensures clock { result.clock ≡ from_of self.now.coupled }
+        ensures refusal { is_some result.refusal ≡ is_some (reason_in self.now.ahead) }
     {
-        &self.lines
-    }
-
-    /// The clock behind the last command.
-    pub fn now(&self) -> u64
-        ensures { result ≡ now_of self.now }
-    {
-        self.controller.now()
-    }
-
-    /// Offers what may be offered, and does one turn: whether there may be more.
-    pub fn step(&mut self, trace: &[TraceLine]) -> Result<bool, OutOfMemory>
-        requires few { length trace.now ≤ MOST }
-        requires holds { (h : HeaderOf) × (run : Run) × (Holds h trace.now self.old run) × AreRequests (shape_of h) trace.now }
-        ensures after { IfOk result (λ more. (h : HeaderOf) (run : Run) → Holds h trace.now self.old run → AreRequests (shape_of h) trace.now
-            → After more h trace.now self.new run) }
-        ensures work { IfOk result (λ more. more ≡ true → work_of trace.now self.new + 1 ≤ work_of trace.now self.old) }
-    {
-        self.lines.clear();
-        self.offered = fill(&mut self.controller, trace, self.offered);
-        match self.controller.next() {
-            Turn::Issue(clock, command, served) => {
-                self.show(clock, &command, served, trace)?;
-                Ok(true)
-            }
-            Turn::Idle => {
-                self.controller.finish();
-                Ok(true)
-            }
-            Turn::Done => Ok(false),
+        Coupled::one_log();
+        reports::laws::gives_to_a_device();
+        Ending {
+            counts: self.counts,
+            peak: self.coupled.peak(),
+            scrub: self.coupled.scrub_counts(),
+            clock: self.coupled.now(),
+            refusal: self.refusal(),
         }
     }
 
-    // Keeps the lines of a command: its own, and the answer of the read that it serves. A write changes its line.
-    fn show(
+    /// The number and the reason of the line that was refused, where one was.
+    fn refusal(&self) -> Option<(u64, u8)>
+        requires { (h : AnyHeader) × (trace : List AnyLine) × (run : Run) × Holds h self.now trace run }
+        ensures { Refuses self.now.ahead self.now.tally.lines result }
+    {
+        match self.ahead {
+            Ahead::Refused(reason) => Some((self.tally.lines + 1, reason)),
+            Ahead::Unknown => None,
+            Ahead::Waits(_) => None,
+            Ahead::Passes(_) => None,
+            Ahead::End => None,
+        }
+    }
+
+    // ---- Reading and offering
+
+    /// Reads trace lines and offers their requests, until one comes back, an F or I line was read, or no line is left.
+    pub(crate) fn offer_all<S: Source>(
         &mut self,
-        clock: u64,
-        command: &Command,
-        served: Option<RequestId>,
-        trace: &[TraceLine],
-    ) -> Result<(), OutOfMemory>
-        requires served { IsWithin trace.now served }
-        requires none { lines_of_turn self.old ≡ [] }
-        ensures { OnOk result (Shows trace.now self.old self.new clock command.now served) }
+        reader: &mut LineReader,
+        source: &mut S,
+    ) -> Result<(), Stop>
+        requires going_on { MayGoOn self.old.ahead reader.old.last }
+        requires holds { (h : AnyHeader) × (trace : List AnyLine) × (run : Run) × Holds h self.old trace run }
+        ensures ready { OnOk result ((h : AnyHeader) (start before written : Option (List ℕ)) → IsUnder h self.old start (next_bytes reader.old.held (S.left source.old)) before written
+            → IsReady h self.new start (next_bytes reader.new.held (S.left source.new)) before written) }
+        ensures cut { IfErr result (λ stop. (h : AnyHeader) (start before written : Option (List ℕ)) → IsUnder h self.old start (next_bytes reader.old.held (S.left source.old)) before written
+            → IsLeftOff h start (S.left source.new) before written) }
+        ensures fewer { left_of self.new ≤ left_of self.old }
+        ensures going_on { OnOk result (MayGoOn self.new.ahead reader.new.last) }
+        ensures later { S.faults source.old ≤ S.faults source.new }
+        ensures cause { IfErr result (ReadCause (S.faults source.old) (S.faults source.new)) }
     {
-        if self
-            .lines
-            .push(ReportLine::Issued(clock, *command))
-            .is_err()
-        {
-            return Err(OutOfMemory);
-        }
-        let Some(id) = served else {
-            return Ok(());
-        };
-        let line = line_at(trace, id.0 as usize - 1);
-        if let Some(value) = answer(&mut self.store, &line, id.0)? {
-            if self.lines.push(value).is_err() {
-                return Err(OutOfMemory);
+        'lines: loop {
+            self.look_ahead(reader, source)?;
+            if !self.offer_next() {
+                return Ok(());
             }
         }
-        Ok(())
     }
-}
 
-// Does what a trace line asks of the store: a write changes its line, and a read answers with its report line.
-fn answer(
-    store: &mut Store,
-    line: &TraceLine,
-    number: u64,
-) -> Result<Option<ReportLine>, OutOfMemory>
-    ensures stored { OnOk result ((x : ℕ) → held_in store.new x ≡ written x line.now (held_in store.old x)) }
-    ensures value { IfOk result (λ value. value ≡ value_for number line.now store.old) }
-{
-    match line {
-        TraceLine::Read(line) => {
-            let bytes = store.read(*line);
-            Ok(Some(ReportLine::Value(number, *line, bytes, ReadState::Clean)))
-        }
-        TraceLine::Write(line, bytes) => {
-            store.write(*line, bytes)?;
-            Ok(None)
-        }
-        TraceLine::Flip(_, _, _) | TraceLine::Idle(_) => Ok(None),
-    }
-}
-
-// Offers the requests of the trace from a line on, until one comes back, and answers how many lines were offered.
-fn fill(controller: &mut Controller, trace: &[TraceLine], offered: usize) -> usize
-    requires within { offered ≤ length trace.now }
-    requires few { length trace.now ≤ MOST }
-    requires stands { (h : HeaderOf) × (run : Run) × (StandsFor controller.old h (requests (take offered trace.now)) run) × AreRequests (shape_of h) trace.now }
-    ensures within { (offered ≤ result) × (result ≤ length trace.now) }
-    ensures stands { (h : HeaderOf) (run : Run) → StandsFor controller.old h (requests (take offered trace.now)) run → AreRequests (shape_of h) trace.now
-        → StandsFor controller.new h (requests (take result trace.now)) run }
-    ensures full { result < length trace.now → waits controller.new ≡ true }
-    ensures work { controller_work controller.new + 7 * (length trace.now - result) ≤ controller_work controller.old + 7 * (length trace.now - offered) }
-    ensures now { controller_now controller.new ≡ controller_now controller.old }
-    ensures finished { is_finished controller.new ≡ is_finished controller.old }
-{
-    let mut next = offered;
-    while next < trace.len() {
-        match controller.offer(request_of(&line_at(trace, next))) {
-            Ok(_) => next += 1,
-            Err(_) => return next,
+    // Reads the next line, where it was not asked for.
+    fn look_ahead<S: Source>(&mut self, reader: &mut LineReader, source: &mut S) -> Result<(), Stop>
+        requires going_on { MayGoOn self.old.ahead reader.old.last }
+        requires holds { (h : AnyHeader) × (trace : List AnyLine) × (run : Run) × Holds h self.old trace run }
+        ensures under { OnOk result ((h : AnyHeader) (start before written : Option (List ℕ)) → IsUnder h self.old start (next_bytes reader.old.held (S.left source.old)) before written
+            → IsUnder h self.new start (next_bytes reader.new.held (S.left source.new)) before written) }
+        ensures known { OnOk result (IsKnown self.new.ahead) }
+        ensures cut { IfErr result (λ stop. (h : AnyHeader) (start before written : Option (List ℕ)) → IsUnder h self.old start (next_bytes reader.old.held (S.left source.old)) before written
+            → IsLeftOff h start (S.left source.new) before written) }
+        ensures fewer { left_of self.new ≤ left_of self.old }
+        ensures lines { self.new.tally ≡ self.old.tally }
+        ensures going_on { OnOk result (MayGoOn self.new.ahead reader.new.last) }
+        ensures later { S.faults source.old ≤ S.faults source.new }
+        ensures cause { IfErr result (ReadCause (S.faults source.old) (S.faults source.new)) }
+    {
+        match self.ahead {
+            Ahead::Unknown => {
+                Coupled::agrees();
+                scheduler::laws::bounds();
+                reports::laws::counts_the_unserved();
+                reports::laws::begins_a_run();
+                let next = next_line(self.tally, self.g, reader, source)?;
+                self.ahead = found(next);
+                Ok(())
+            }
+            Ahead::Waits(_) => Ok(()),
+            Ahead::Passes(_) => Ok(()),
+            Ahead::End => Ok(()),
+            Ahead::Refused(_) => Ok(()),
         }
     }
-    next
-}
 
-// The line with this index.
-fn line_at(trace: &[TraceLine], index: usize) -> TraceLine
-    requires { index < length trace.now }
-    ensures { slice_get trace.now index ≡ Some result }
-{
-    trace[index]
-}
+    // Offers the next line, where it is a request, and answers whether it was taken.
+    fn offer_next(&mut self) -> bool
+        requires holds { (h : AnyHeader) × (trace : List AnyLine) × (run : Run) × Holds h self.old trace run }
+        requires known { IsKnown self.old.ahead }
+        ensures under { (h : AnyHeader) (start left before written : Option (List ℕ)) → IsUnder h self.old start left before written
+            → IsUnder h self.new start left before written }
+        ensures filled { (h : AnyHeader) (trace : List AnyLine) (run : Run) → result ≡ false → Holds h self.new trace run
+            → IsOffered h trace run (following self.new.ahead) }
+        ensures fewer { left_of self.new ≤ left_of self.old }
+        ensures line { result ≡ true → self.new.tally.lines ≡ self.old.tally.lines + 1 }
+        ensures goes_on { (last : AnyEnd) → MayGoOn self.old.ahead last → MayGoOn self.new.ahead last }
+        ensures ahead { result ≡ true → self.new.ahead ≡ Ahead.Unknown }
+        ensures same { result ≡ false → self.new ≡ self.old }
+    {
+        match self.ahead {
+            Ahead::Waits(line) => match asked(&line) {
+                Some((request, bytes)) => self.offer(request, bytes),
+                None => false,
+            },
+            Ahead::Unknown => false,
+            Ahead::Passes(_) => false,
+            Ahead::End => false,
+            Ahead::Refused(_) => false,
+        }
+    }
 
-// What is offered for an R or W line.
-fn request_of(line: &TraceLine) -> Request
-    requires { (g : Shape) × IsRequest g line.now }
-    ensures { result ≡ offer_of line.now }
-{
-    match line {
-        TraceLine::Read(line) => Request {
-            line: *line,
-            kind: Kind::Read,
-        },
-        TraceLine::Write(line, _) => Request {
-            line: *line,
-            kind: Kind::Write,
-        },
-        TraceLine::Flip(_, _, _) | TraceLine::Idle(_) => unreachable!(),
+    // Offers a request of the next line, and answers whether it was taken.
+    fn offer(&mut self, request: Request, bytes: Option<[u8; 64]>) -> bool
+        requires holds { (h : AnyHeader) × (trace : List AnyLine) × (run : Run) × Holds h self.old trace run }
+        requires asked { IsAsked self.old.ahead request bytes }
+        ensures under { (h : AnyHeader) (start left before written : Option (List ℕ)) → IsUnder h self.old start left before written
+            → IsUnder h self.new start left before written }
+        ensures full { (h : AnyHeader) (trace : List AnyLine) (run : Run) → result ≡ false → Holds h self.old trace run
+            → IsFull (length (offered trace)) (waiting h (offered trace) (controller_steps trace run)) }
+        ensures taken { result ≡ true → self.new.tally ≡ tally_with self.old.tally 0 }
+        ensures ahead { result ≡ true → self.new.ahead ≡ Ahead.Unknown }
+        ensures commands { self.new.commands ≡ self.old.commands }
+        ensures finished { finished_of self.new.coupled ≡ finished_of self.old.coupled }
+        ensures same { result ≡ false → self.new ≡ self.old }
+    {
+        reports::laws::takes_a_request();
+        reports::laws::gives_to_a_controller();
+        reports::laws::rests_on_the_lines_so_far();
+        reports::laws::takes_from_the_held();
+        Coupled::agrees();
+        scheduler::laws::bounds();
+        scheduler::laws::in_order();
+        requests::laws::oldest_unserved();
+        match self.coupled.offer(again(&request)) {
+            Ok(_) => {
+                self.held.push(HeldRequest {
+                    number: self.tally.lines + 1,
+                    request,
+                    bytes,
+                    outcome: Outcome::Waits,
+                });
+                self.take_line(0);
+                true
+            }
+            Err(_) => false,
+        }
+    }
+
+    // The next line is taken, which lets so many clocks pass.
+    pub(crate) fn take_line(&mut self, clocks: u64)
+        requires { (self.old.tally.lines < MOST) × (self.old.tally.clocks + clocks ≤ 4294967296) }
+        ensures { self.new ≡ taken self.old clocks }
+    {
+        self.tally.lines += 1;
+        self.tally.clocks += clocks;
+        self.ahead = Ahead::Unknown;
     }
 }

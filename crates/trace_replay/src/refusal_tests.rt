@@ -1,7 +1,8 @@
 //! Openings and trace lines that are refused, each with the reason that `docs/FORMATS.md` names.
-use crate::job::{Reading, read_job};
 use crate::replay;
-use ddr_io::{PlainSink, PlainSource, Status};
+use crate::trace_lines::{Next, Tally, next_line};
+use command_words::Geometry;
+use ddr_io::{LineReader, PlainSink, PlainSource, Status};
 use std::alloc::Global;
 use std::test::Fail;
 
@@ -152,7 +153,7 @@ const OPENINGS: [(&str, u8); 27] = [
 ];
 
 // Traces, and the line that ends the report.
-const TRACES: [(&str, &str); 39] = [
+const TRACES: [(&str, &str); 37] = [
     ("\n", "X 1 1\n"),
     ("R 0\n\n", "X 2 1\n"),
     ("Q\n", "X 1 2\n"),
@@ -200,16 +201,14 @@ const TRACES: [(&str, &str); 39] = [
         "R 0\nxxxxxxxxxxxxxxxxxxxxxxxxxxxxxxxxxxxxxxxxxxxxxxxxxxxxxxxxxxxxxxxxxxxxxxxxxxxxxxxxxxxxxxxxxxxxxxxxxxxxxxxxxxxxxxxxxxxxxxxxxxxxxxxxxxxxxxxxxxxxxxxxxxxxxxxxxxxxxxxxxxxxxxxxxxxxxxxxxxxxxxxxxxxxxxxxxxxxxxxxxxxxxxxxxxxxxxxxxxxxxxxxxxxxxxxxxxxxxxxxxxxxxxxxxxxxxxxxxxxxxxxxxxxxxxxxxxxxxxxxxxxxxxxxxxxxxxxxxxxxxxxxxxxxxxxxxxxxxxxxxxxxxxxxxxxxxxxxxxxxxxxxxxxxxxxxxxxxxxxxxxxxxxxxxxxxxxxxxxxxxxxxxxxxxxxxxxxxxxxxxxxxxxxxxxxxxxxxxxxxxxxxxxxxxxxxxxxxxxxxxxxxxxxxxxxxxxxxxxxxxxxxxxxxxxxxxxxxxxxxxxxxxxxxxxxxxxxxxxxxxxxxxxxxxxxx",
         "X 2 7\n",
     ),
+    ("I 1\nI 4294967296\n", "X 2 10\n"),
+    ("I 7\nR 0\nI 4294967290\nR 0\n", "X 3 10\n"),
     ("R 0", "X 1 8\n"),
     ("R 0\nQ", "X 2 8\n"),
     (
         "xxxxxxxxxxxxxxxxxxxxxxxxxxxxxxxxxxxxxxxxxxxxxxxxxxxxxxxxxxxxxxxxxxxxxxxxxxxxxxxxxxxxxxxxxxxxxxxxxxxxxxxxxxxxxxxxxxxxxxxxxxxxxxxxxxxxxxxxxxxxxxxxxxxxxxxxxxxxxxxxxxxxxxxxxxxxxxxxxxxxxxxxxxxxxxxxxxxxxxxxxxxxxxxxxxxxxxxxxxxxxxxxxxxxxxxxxxxxxxxxxxxxxxxxxxxxxxxxxxxxxxxxxxxxxxxxxxxxxxxxxxxxxxxxxxxxxxxxxxxxxxxxxxxxxxxxxxxxxxxxxxxxxxxxxxxxxxxxxxxxxxxxxxxxxxxxxxxxxxxxxxxxxxxxxxxxxxxxxxxxxxxxxxxxxxxxxxxxxxxxxxxxxxxxxxxxxxxxxxxxxxxxxxxxxxxxxxxxxxxxxxxxxxxxxxxxxxxxxxxxxxxxxxxxxxxxxxxxxxxxxxxxxxxxxxxxxxxxxxxxxxxxxxxxxxx",
         "X 1 8\n",
     ),
-    ("I 0\n", "X 1 20\n"),
-    ("I 4294967296\n", "X 1 20\n"),
-    ("F 0 0 0\n", "X 1 20\n"),
-    ("R 0\nF 0 3 135\n", "X 2 20\n"),
 ];
 
 // The report of a job that is refused.
@@ -300,22 +299,38 @@ fn headers_have_a_limit(rt: HostRuntime) -> Result<(), Fail> {
     Ok(())
 }
 
+// Lines behind so many lines with so many idle clocks, and the reason.
+const LIMITS: [(u64, u64, &str, u8); 12] = [
+    (1_048_575, 0, "R 0\n", 0),
+    (1_048_576, 0, "R 0\n", 9),
+    (1_048_576, 0, "Q\n", 9),
+    (1_048_576, 0, "R 0", 9),
+    (1_048_576, 4_294_967_296, "I 1\n", 9),
+    (1_048_576, 0, "", 0),
+    (1, 4_294_967_296, "I 0\n", 0),
+    (1, 4_294_967_296, "I 1\n", 10),
+    (1, 1, "I 4294967295\n", 0),
+    (1, 1, "I 4294967296\n", 10),
+    (1, 1, "I 4294967297\n", 5),
+    (1, 4_294_967_296, "F 0 3 135\n", 0),
+];
+
 #[test]
-fn traces_have_a_limit(rt: HostRuntime) -> Result<(), Fail> {
+fn traces_have_limits(rt: HostRuntime) -> Result<(), Fail> {
     let alloc = rt.alloc();
-    let rows: [(&[u8], Option<u8>); 3] = [(b"", None), (b"R 0\n", Some(9)), (b"Q", Some(9))];
-    for (last, want) in rows {
-        let mut job = HEADER.as_bytes().to_vec(alloc)?;
-        job.extend_from_slice(b"---\n")?;
-        for _ in 0..1_048_576 {
-            job.extend_from_slice(b"R 0\n")?;
-        }
-        job.extend_from_slice(last)?;
-        let mut source = PlainSource::new(job);
-        match read_job(alloc, &mut source) {
-            Ok(Reading::Accepted(job)) => assert!(rt; job.trace.refused == want),
-            _ => assert!(rt; false),
-        }
+    for (lines, clocks, text, want) in LIMITS {
+        let mut source = PlainSource::new(text.as_bytes().to_vec(alloc)?);
+        let mut reader = LineReader::new();
+        let Some(g) = Geometry::new(16, 8) else {
+            assert!(rt; false);
+            return Ok(());
+        };
+        let reason = match next_line(Tally { lines, clocks }, g, &mut reader, &mut source) {
+            Ok(Next::Refused(reason)) => reason,
+            Ok(_) => 0,
+            Err(_) => 255,
+        };
+        assert_eq!(rt; reason, want);
     }
     Ok(())
 }

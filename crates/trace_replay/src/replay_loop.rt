@@ -1,64 +1,68 @@
 //! From the bytes of a job to the bytes of its report.
-ghost use Rattle.std.specs.Prelude.{ℕ, ◌≡◌, ◌≢◌, ◌≤◌, ◌+◌, List, Option, Some, None, length, OnOk, IfOk, IfErr};
-ghost use Rattle.std.specs.Io.KnownBytes.{Appends};
+ghost use Rattle.std.specs.Prelude.{ℕ, ◌≡◌, ◌≢◌, ◌≤◌, List, Option, Some, None, [], IfOk, OnOk, IfErr};
+ghost use Rattle.speed_bin.specs.Header.{IsAccepted};
+ghost use Rattle.speed_bin.specs.declared.header.Header.{Header as AnyHeader};
 ghost use Rattle.ddr_io.specs.Faults.{Rose};
-ghost use Rattle.ddr_io.specs.Sink.{AppendsPrefix};
-ghost use Rattle.ddr_text.specs.Sound.{opening};
+ghost use Rattle.ddr_io.specs.Line.{next_bytes};
+ghost use Rattle.ddr_io.specs.declared.line_reader.Line.{Line as AnyEnd};
+ghost use Rattle.ddr_io.specs.declared.line_reader.Line.TheVariants.{Text as AfterText};
 ghost use Rattle.ddr_text.specs.declared.lines.TraceLine.{TraceLine};
-ghost use Rattle.speed_bin.specs.declared.header.Header.{Header};
+ghost use Rattle.requests.specs.Queue.{shape_of};
+ghost use Rattle.reports.specs.Runs.{Run};
 ghost use Rattle.trace_replay.specs.Job.{IsJobOf};
-ghost use Rattle.trace_replay.specs.Reading.{MayServe, IsServable};
-ghost use Rattle.trace_replay.specs.Replay.{Answers, ReadAnswers, JobAnswers, OpeningAnswers, Reports, BeginsReport};
-ghost use Rattle.trace_replay.specs.Stop.{WriteCause};
-ghost use Rattle.trace_replay.specs.Trace.{MOST};
+ghost use Rattle.trace_replay.specs.Reading.{Continues, IsRead};
+ghost use Rattle.trace_replay.specs.Progress.{Holds, IsUnder, IsOver, MayGoOn};
+ghost use Rattle.trace_replay.specs.Replay.{Answers, RunAnswers, OpeningEnds, TraceAnswers, TraceServed, TraceEnds, EndAnswers, EndCause, IsUnrefused, StopsServing, StopCause};
+ghost use Rattle.trace_replay.specs.Stop.{status_of};
 
-use crate::job::{Job, Reading, Trace, read_job};
-use crate::stop::{Stop, put};
-use crate::writing::{put_line, serve};
-use ddr_io::{OutOfMemory, Sink, Source, Status};
-use ddr_text::{HeaderText, ReportLine};
+use crate::ending::Ending;
+use crate::progress::Progress;
+use crate::stop::Stop;
+use crate::writing::{put_line, put_opening};
+use ddr_io::{LineReader, Sink, Source, Status};
+use ddr_text::{HeaderText, Opening, ReportLine, open_job};
+use speed_bin::Header;
 use std::alloc::Global;
 
-/// Reads a job, and writes its report: the header and the line behind it, the lines of each turn, the E line, and an X
-/// line where a line of the trace is refused. Of an opening that is refused it writes the X line alone.
+/// How the replay of a job ended, before the lines that end its report are written.
+#[derive(Clone, Copy, Debug)]
+pub enum Ended {
+    /// The trace was served to its last turn, and this ends the report.
+    Finished(Ending),
+    /// The opening is refused, and the report is whole.
+    Refused,
+    /// It stopped.
+    Stopped(Stop),
+}
+
+/// Reads a job, and writes its report as the run goes on: the header and the line behind it, the lines of each turn, the S
+/// lines, the E line, and an X line where a line of the trace is refused. Of an opening that is refused it writes the X line alone.
 pub fn replay<S: Source, K: Sink>(alloc: Global, source: &mut S, sink: &mut K) -> Status
     ensures answer { Answers result (S.left source.old) (S.left source.new) (K.written sink.old) (K.written sink.new) }
 
     // A job with nothing to refuse is not refused.
-    ensures complete { (bytes : List ℕ) (left : Option (List ℕ)) (h : Header) (text : List ℕ) (trace : List TraceLine)
-        → S.left source.old ≡ Some bytes → IsJobOf (Some bytes) left h text trace None → result ≢ Status.Refused }
+    ensures complete { (bytes : List ℕ) (h : AnyHeader) (text : List ℕ) (trace : List TraceLine) → S.left source.old ≡ Some bytes
+        → IsJobOf (Some bytes) h text trace None → result ≢ Status.Refused }
 
     ensures read { result ≡ Status.ReadFault → Rose (S.faults source.old) (S.faults source.new) }
     ensures write { result ≡ Status.WriteFault → Rose (K.faults sink.old) (K.faults sink.new) }
     ensures usage { result ≢ Status.Usage }
     ensures broken { result ≢ Status.Broken }
 {
-    match read_job(alloc, source) {
-        Ok(reading) => answer_job(alloc, reading, sink),
-        Err(stop) => stop.status(),
+    match run_job(alloc, source, sink) {
+        Ended::Finished(ending) => end_report(&ending, sink),
+        Ended::Refused => Status::Refused,
+        Ended::Stopped(stop) => stop.status(),
     }
 }
 
-// Answers what was read: a job, or an opening that is refused.
-fn answer_job<K: Sink>(alloc: Global, reading: Reading, sink: &mut K) -> Status
-    requires { MayServe reading }
-    ensures answer { ReadAnswers reading result (K.written sink.old) (K.written sink.new) }
+// Writes the end of a report.
+fn end_report<K: Sink>(ending: &Ending, sink: &mut K) -> Status
+    ensures answer { EndAnswers result ending.now (K.written sink.old) (K.written sink.new) }
     ensures write { result ≡ Status.WriteFault → Rose (K.faults sink.old) (K.faults sink.new) }
 {
-    match reading {
-        Reading::Accepted(job) => report_job(alloc, &job, sink),
-        Reading::Refused(reason) => refuse_opening(reason, sink),
-    }
-}
-
-// Answers a job that was read.
-fn report_job<K: Sink>(alloc: Global, job: &Job, sink: &mut K) -> Status
-    requires { IsServable job.now }
-    ensures answer { JobAnswers result job.now.header job.now.text job.now.trace.lines.items job.now.trace.refused (K.written sink.old) (K.written sink.new) }
-    ensures write { result ≡ Status.WriteFault → Rose (K.faults sink.old) (K.faults sink.new) }
-{
-    match write_report(alloc, job, sink) {
-        Ok(()) => match job.trace.refused {
+    match ending.write(sink) {
+        Ok(()) => match ending.refusal {
             Some(_) => Status::Refused,
             None => Status::Ok,
         },
@@ -66,62 +70,130 @@ fn report_job<K: Sink>(alloc: Global, job: &Job, sink: &mut K) -> Status
     }
 }
 
-// Answers a job whose opening is refused.
-fn refuse_opening<K: Sink>(reason: u8, sink: &mut K) -> Status
-    ensures answer { OpeningAnswers result reason (K.written sink.old) (K.written sink.new) }
-    ensures write { result ≡ Status.WriteFault → Rose (K.faults sink.old) (K.faults sink.new) }
+/// Reads a job, and writes its report as the run goes on, but for the lines that end it: those it answers. Of an opening that is
+/// refused it writes the whole report.
+pub fn run_job<S: Source, K: Sink>(alloc: Global, source: &mut S, sink: &mut K) -> Ended
+    ensures answer { RunAnswers result (S.left source.old) (S.left source.new) (K.written sink.old) (K.written sink.new) }
+
+    // Of a job with nothing to refuse nothing is refused.
+    ensures complete { (bytes : List ℕ) (h : AnyHeader) (text : List ℕ) (trace : List TraceLine) → S.left source.old ≡ Some bytes
+        → IsJobOf (Some bytes) h text trace None → IsUnrefused result }
+
+    ensures later { S.faults source.old ≤ S.faults source.new }
+    ensures later_written { K.faults sink.old ≤ K.faults sink.new }
+    ensures cause { EndCause (S.faults source.old) (S.faults source.new) (K.faults sink.old) (K.faults sink.new) result }
+{
+    let mut reader = LineReader::new();
+    match open_job(alloc, &mut reader, source) {
+        Ok(Opening::Accepted(header, text)) => {
+            run_trace(alloc, &header, &text, &mut reader, source, sink)
+        }
+        Ok(Opening::Refused(reason)) => refuse_opening(reason, sink),
+        Ok(Opening::Failed) => Ended::Stopped(Stop::ReadFault),
+        Err(_) => Ended::Stopped(Stop::OutOfMemory),
+    }
+}
+
+// Writes the report of a job whose opening is refused.
+fn refuse_opening<K: Sink>(reason: u8, sink: &mut K) -> Ended
+    ensures answer { OpeningEnds result reason (K.written sink.old) (K.written sink.new) }
+    ensures later_written { K.faults sink.old ≤ K.faults sink.new }
+    ensures cause { (read read_after : ℕ) → EndCause read read_after (K.faults sink.old) (K.faults sink.new) result }
 {
     match put_line(&ReportLine::Refused(0, reason), sink) {
-        Ok(()) => Status::Refused,
-        Err(stop) => stop.status(),
+        Ok(()) => Ended::Refused,
+        Err(stop) => Ended::Stopped(stop),
     }
 }
 
-// Writes the report of a job.
-fn write_report<K: Sink>(alloc: Global, job: &Job, sink: &mut K) -> Result<(), Stop>
-    requires { IsServable job.now }
-    ensures whole { OnOk result (Reports job.now.header job.now.text job.now.trace.lines.items job.now.trace.refused (K.written sink.old) (K.written sink.new)) }
-    ensures cut { IfErr result (λ stop. BeginsReport job.now.header job.now.text job.now.trace.lines.items job.now.trace.refused (K.written sink.old) (K.written sink.new)) }
-    ensures later { K.faults sink.old ≤ K.faults sink.new }
-    ensures cause { IfErr result (WriteCause (K.faults sink.old) (K.faults sink.new)) }
+// Runs a job whose opening is accepted, by the bytes behind its opening.
+fn run_trace<S: Source, K: Sink>(
+    alloc: Global,
+    header: &Header,
+    text: &HeaderText,
+    reader: &mut LineReader,
+    source: &mut S,
+    sink: &mut K,
+) -> Ended
+    requires accepted { IsAccepted header.now }
+    requires going_on { reader.old.last ≡ AfterText }
+    ensures answer { (start : Option (List ℕ)) → Continues (shape_of header.now) [] start [] (next_bytes reader.old.held (S.left source.old))
+        → TraceEnds result header.now text.now start (S.left source.new) (K.written sink.old) (K.written sink.new) }
+    ensures later { S.faults source.old ≤ S.faults source.new }
+    ensures later_written { K.faults sink.old ≤ K.faults sink.new }
+    ensures cause { EndCause (S.faults source.old) (S.faults source.new) (K.faults sink.old) (K.faults sink.new) result }
 {
-    put_opening(alloc, &job.text, sink)?;
-    serve(alloc, &job.header, &job.trace.lines, sink)?;
-    match job.trace.refused {
-        Some(reason) => {
-            let number = next_number(&job.trace);
-            put_line(&ReportLine::Refused(number, reason), sink)
-        }
-        None => Ok(()),
+    match serve_trace(alloc, header, text, reader, source, sink) {
+        Ok(ending) => Ended::Finished(ending),
+        Err(stop) => Ended::Stopped(stop),
     }
 }
 
-// The number of the line behind the lines that are served.
-fn next_number(trace: &Trace) -> u64
-    requires { length trace.now.lines.items ≤ MOST }
-    ensures { result ≡ length trace.now.lines.items + 1 }
+// Writes the report but for the lines that end it, and answers those.
+fn serve_trace<S: Source, K: Sink>(
+    alloc: Global,
+    header: &Header,
+    text: &HeaderText,
+    reader: &mut LineReader,
+    source: &mut S,
+    sink: &mut K,
+) -> Result<Ending, Stop>
+    requires accepted { IsAccepted header.now }
+    requires going_on { reader.old.last ≡ AfterText }
+    ensures served { IfOk result (λ ending. (start : Option (List ℕ)) → Continues (shape_of header.now) [] start [] (next_bytes reader.old.held (S.left source.old))
+        → TraceServed header.now text.now start (S.left source.new) (K.written sink.old) (K.written sink.new) ending) }
+    ensures cut { IfErr result (λ stop. (start : Option (List ℕ)) → Continues (shape_of header.now) [] start [] (next_bytes reader.old.held (S.left source.old))
+        → TraceAnswers (status_of stop) header.now text.now start (S.left source.new) (K.written sink.old) (K.written sink.new)) }
+    ensures later { S.faults source.old ≤ S.faults source.new }
+    ensures later_written { K.faults sink.old ≤ K.faults sink.new }
+    ensures cause { IfErr result (StopCause (S.faults source.old) (S.faults source.new) (K.faults sink.old) (K.faults sink.new)) }
 {
-    trace.lines.len() as u64 + 1
+    reports::laws::headline();
+    reports::laws::rests_on_the_lines_so_far();
+    reports::laws::reads_lines_inside();
+    reports::laws::takes_a_request();
+    let mut progress = begin(alloc, header)?;
+    put_opening(alloc, text, sink)?;
+    serve(&mut progress, reader, source, sink)?;
+    Ok(progress.ending())
 }
 
-// Writes the text of the header and the line `---` as one piece.
-fn put_opening<K: Sink>(alloc: Global, text: &HeaderText, sink: &mut K) -> Result<(), Stop>
-    ensures whole { OnOk result (Appends (K.written sink.old) (K.written sink.new) (opening text.now)) }
-    ensures cut { IfErr result (λ stop. AppendsPrefix (K.written sink.old) (K.written sink.new) (opening text.now)) }
-    ensures later { K.faults sink.old ≤ K.faults sink.new }
-    ensures cause { IfErr result (WriteCause (K.faults sink.old) (K.faults sink.new)) }
+// A replay before its first turn.
+fn begin(alloc: Global, header: &Header) -> Result<Progress, Stop>
+    requires { IsAccepted header.now }
+    ensures holds { IfOk result (λ p. Holds header.now p [] []) }
+    ensures ahead { IfOk result (λ p. (last : AnyEnd) → last ≡ AfterText → MayGoOn p.ahead last) }
+    ensures read { IfOk result (λ p. (start left : Option (List ℕ)) → Continues (shape_of header.now) [] start [] left → IsRead (shape_of header.now) [] p.ahead start left) }
+    ensures stop { IfErr result (λ stop. stop ≡ Stop.OutOfMemory) }
 {
-    match opening(alloc, text) {
-        Ok(piece) => put(sink, &piece),
+    match Progress::new(alloc, header) {
+        Ok(progress) => Ok(progress),
         Err(_) => Err(Stop::OutOfMemory),
     }
 }
 
-// The text of the header, and the line `---`.
-fn opening(alloc: Global, text: &HeaderText) -> Result<Vec<u8>, OutOfMemory>
-    ensures { IfOk result (λ piece. piece.items ≡ opening text.now) }
+// Serves the trace, to its last turn.
+fn serve<S: Source, K: Sink>(
+    progress: &mut Progress,
+    reader: &mut LineReader,
+    source: &mut S,
+    sink: &mut K,
+) -> Result<(), Stop>
+    requires going_on { MayGoOn progress.old.ahead reader.old.last }
+    requires holds { (h : AnyHeader) × (trace : List TraceLine) × (run : Run) × Holds h progress.old trace run }
+    ensures holds { OnOk result ((h : AnyHeader) × (trace : List TraceLine) × (run : Run) × Holds h progress.new trace run) }
+    ensures over { OnOk result ((h : AnyHeader) (start before : Option (List ℕ)) → IsUnder h progress.old start (next_bytes reader.old.held (S.left source.old)) before (K.written sink.old)
+        → IsOver h progress.new start (next_bytes reader.new.held (S.left source.new)) before (K.written sink.new)) }
+    ensures cut { IfErr result (λ stop. (h : AnyHeader) (start before : Option (List ℕ)) → IsUnder h progress.old start (next_bytes reader.old.held (S.left source.old)) before (K.written sink.old)
+        → StopsServing stop h start (S.left source.new) before (K.written sink.new)) }
+    ensures later { S.faults source.old ≤ S.faults source.new }
+    ensures later_written { K.faults sink.old ≤ K.faults sink.new }
+    ensures cause { IfErr result (StopCause (S.faults source.old) (S.faults source.new) (K.faults sink.old) (K.faults sink.new)) }
 {
-    let mut piece = text.bytes().to_vec(alloc)?;
-    piece.extend_from_slice(b"---\n")?;
-    Ok(piece)
+    'turns: loop {
+        progress.offer_all(reader, source)?;
+        if !progress.turn(sink)? {
+            return Ok(());
+        }
+    }
 }

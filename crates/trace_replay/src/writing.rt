@@ -1,26 +1,25 @@
-//! Writes the lines of a report.
-ghost use Rattle.std.specs.Prelude.{◌≡◌, ◌≤◌, ◌++◌, ◌∷◌, [], length, OnOk, IfErr};
+//! Writes the pieces of a report.
+ghost use Rattle.std.specs.Prelude.{◌≡◌, ◌≤◌, OnOk, IfOk, IfErr};
 ghost use Rattle.std.specs.List.{flat_map};
 ghost use Rattle.std.specs.Io.KnownBytes.{Appends};
 ghost use Rattle.ddr_io.specs.Sink.{AppendsPrefix};
 ghost use Rattle.ddr_text.specs.Spelling.{spelled};
-ghost use Rattle.ddr_text.specs.Sound.{shape_of};
-ghost use Rattle.speed_bin.specs.Header.{IsAccepted};
+ghost use Rattle.reports.specs.Stats.{stat_lines};
+ghost use Rattle.ddr_text.specs.ReportParts.{opening};
+ghost use Rattle.trace_replay.specs.Counts.{with_peak};
 ghost use Rattle.trace_replay.specs.Stop.{WriteCause};
-ghost use Rattle.trace_replay.specs.Trace.{AreRequests, MOST};
-ghost use Rattle.trace_replay.specs.Writing.{Serves, BeginsToServe};
 
-use crate::progress::Progress;
+use crate::counts::Counts;
 use crate::stop::{Stop, put};
 use arrayvec::ArrayVec;
-use ddr_io::Sink;
-use ddr_text::{ReportLine, TraceLine, write_report_line};
-use speed_bin::Header;
+use ddr_io::{OutOfMemory, Sink};
+use ddr_text::{HeaderText, ReportLine, StatName, write_report_line};
+use error_scrub::ScrubCounts;
 use std::alloc::Global;
 
 /// Writes a line.
 #[tactic(auto, using(crate::proofs::Pieces::some_bytes))]
-pub fn put_line<K: Sink>(line: &ReportLine, sink: &mut K) -> Result<(), Stop>
+pub(crate) fn put_line<K: Sink>(line: &ReportLine, sink: &mut K) -> Result<(), Stop>
     ensures whole { OnOk result (Appends (K.written sink.old) (K.written sink.new) (spelled line.now)) }
     ensures cut { IfErr result (λ stop. AppendsPrefix (K.written sink.old) (K.written sink.new) (spelled line.now)) }
     ensures later { K.faults sink.old ≤ K.faults sink.new }
@@ -31,7 +30,7 @@ pub fn put_line<K: Sink>(line: &ReportLine, sink: &mut K) -> Result<(), Stop>
     put(sink, &text)
 }
 
-/// Writes these lines.
+// Writes these lines.
 fn put_lines<K: Sink>(lines: &[ReportLine], sink: &mut K) -> Result<(), Stop>
     ensures whole { OnOk result (Appends (K.written sink.old) (K.written sink.new) (flat_map spelled lines.now)) }
     ensures cut { IfErr result (λ stop. AppendsPrefix (K.written sink.old) (K.written sink.new) (flat_map spelled lines.now)) }
@@ -44,31 +43,66 @@ fn put_lines<K: Sink>(lines: &[ReportLine], sink: &mut K) -> Result<(), Stop>
     Ok(())
 }
 
-/// Serves the trace, and writes the lines of each turn as it makes them, and the E line.
-pub fn serve<K: Sink>(
-    alloc: Global,
-    header: &Header,
-    trace: &[TraceLine],
+// The fourteen S lines.
+#[tactic(auto, unfolding(reports::specs::Stats::stat_lines))]
+fn lines_of(counts: &Counts, peak: u32, scrub: &ScrubCounts) -> [ReportLine; 14]
+    ensures { result ≡ stat_lines (with_peak counts.now peak) scrub.now }
+{
+    [
+        ReportLine::Stat(StatName::Act, counts.act),
+        ReportLine::Stat(StatName::Rd, counts.rd),
+        ReportLine::Stat(StatName::Wr, counts.wr),
+        ReportLine::Stat(StatName::Pre, counts.pre),
+        ReportLine::Stat(StatName::RefAb, counts.refab),
+        ReportLine::Stat(StatName::RefSb, counts.refsb),
+        ReportLine::Stat(StatName::RfmAb, counts.rfmab),
+        ReportLine::Stat(StatName::RfmSb, counts.rfmsb),
+        ReportLine::Stat(StatName::Ecs, counts.ecs),
+        ReportLine::Stat(StatName::Alert, counts.alerts),
+        ReportLine::Stat(StatName::Peak, u64::from(peak)),
+        ReportLine::Stat(StatName::Found, scrub.found),
+        ReportLine::Stat(StatName::Lost, scrub.lost),
+        ReportLine::Stat(StatName::Worst, scrub.worst),
+    ]
+}
+
+/// Writes the fourteen S lines.
+pub(crate) fn put_stats<K: Sink>(
+    counts: &Counts,
+    peak: u32,
+    scrub: &ScrubCounts,
     sink: &mut K,
 ) -> Result<(), Stop>
-    requires accepted { IsAccepted header.now }
-    requires requests { AreRequests (shape_of header.now) trace.now }
-    requires few { length trace.now ≤ MOST }
-    ensures whole { OnOk result (Serves header.now trace.now (K.written sink.old) (K.written sink.new)) }
-    ensures cut { IfErr result (λ stop. BeginsToServe header.now trace.now (K.written sink.old) (K.written sink.new)) }
+    ensures whole { OnOk result (Appends (K.written sink.old) (K.written sink.new) (flat_map spelled (stat_lines (with_peak counts.now peak) scrub.now))) }
+    ensures cut { IfErr result (λ stop. AppendsPrefix (K.written sink.old) (K.written sink.new) (flat_map spelled (stat_lines (with_peak counts.now peak) scrub.now))) }
     ensures later { K.faults sink.old ≤ K.faults sink.new }
     ensures cause { IfErr result (WriteCause (K.faults sink.old) (K.faults sink.new)) }
 {
-    let mut progress = match Progress::new(alloc, header, trace) {
-        Ok(progress) => progress,
-        Err(_) => return Err(Stop::OutOfMemory),
-    };
-    'turns: loop {
-        match progress.step(trace) {
-            Ok(true) => {}
-            Ok(false) => return put_line(&ReportLine::End(progress.now()), sink),
-            Err(_) => return Err(Stop::OutOfMemory),
-        }
-        put_lines(progress.lines(), sink)?;
+    put_lines(&lines_of(counts, peak, scrub), sink)
+}
+
+/// Writes the text of the header and the line `---` as one piece.
+pub(crate) fn put_opening<K: Sink>(
+    alloc: Global,
+    text: &HeaderText,
+    sink: &mut K,
+) -> Result<(), Stop>
+    ensures whole { OnOk result (Appends (K.written sink.old) (K.written sink.new) (opening text.now)) }
+    ensures cut { IfErr result (λ stop. AppendsPrefix (K.written sink.old) (K.written sink.new) (opening text.now)) }
+    ensures later { K.faults sink.old ≤ K.faults sink.new }
+    ensures cause { IfErr result (WriteCause (K.faults sink.old) (K.faults sink.new)) }
+{
+    match opening(alloc, text) {
+        Ok(piece) => put(sink, &piece),
+        Err(_) => Err(Stop::OutOfMemory),
     }
+}
+
+// The text of the header, and the line `---`.
+fn opening(alloc: Global, text: &HeaderText) -> Result<Vec<u8>, OutOfMemory>
+    ensures { IfOk result (λ piece. piece.items ≡ opening text.now) }
+{
+    let mut piece = text.bytes().to_vec(alloc)?;
+    piece.extend_from_slice(b"---\n")?;
+    Ok(piece)
 }

@@ -1,15 +1,20 @@
-use Rattle.std.proofs.Common.{◌≡◌, ◌∙◌, ap, map, string_bytes, [], ◌∷◌, inl, sym}
-use Rattle.std.specs.Cmp.Lexicographic.{same_text}
-use Rattle.ddr_cli.specs.Words.{IsReplay}
-use Rattle.ddr_cli.proofs.OneWord.{only_one}
+use Rattle.ddr_cli.specs.declared.form.Form.TheVariants.{Gen, GenRun}
+use Rattle.ddr_cli.proofs.MadeWords.{either_way, few_requests}
 use Rattle.ddr_cli.proofs.run.run.Goals as goal
 
-pub returns-in-len1-clause-usage : goal.returns-in-len1-clause-usage
-returns-in-len1-clause-usage g c =
-    let one = only_one c.args.words.now c.word-item.result c.in-len1.len_at_least c.in-len1.len_below c.word-item.is in
-    let text = sym c.as_str.ensures.value ∙ same_text _ _ c.if-eq.ensures in
-    let is : IsReplay c.args.words.now = ap (map string_bytes) one ∙ ap (λ bytes. bytes ∷ []) text in
-    (λ usage. absurd (c.replay.ensures.usage usage), λ other. absurd (other (inl is)))
+pub run_made-requires : goal.run_made-requires
+run_made-requires g c =
+    let is = rw c.in-Some-GenRun.field-0-is at c.in-Some-GenRun.ensures in
+    few_requests is.0 c.in-Some-GenRun.seed c.in-Some-GenRun.requests is.2
 
-pub returns-in-len1-clause-complete : goal.returns-in-len1-clause-complete
-returns-in-len1-clause-complete g c = λ bytes left h text trace words known whole. c.replay.ensures.complete bytes left h text trace known whole
+pub returns-in-Some-Gen-clause-made_run : goal.returns-in-Some-Gen-clause-made_run
+returns-in-Some-Gen-clause-made_run g c = λ seed requests run. absurd (either_way c.args.words.now c.in-Some-Gen.seed c.in-Some-Gen.requests seed requests (rw c.in-Some-Gen.field-0-is at c.in-Some-Gen.ensures) run)
+
+pub returns-in-Some-GenRun-clause-made : goal.returns-in-Some-GenRun-clause-made
+returns-in-Some-GenRun-clause-made g c = λ seed requests gen. absurd (either_way c.args.words.now seed requests c.in-Some-GenRun.seed c.in-Some-GenRun.requests gen (rw c.in-Some-GenRun.field-0-is at c.in-Some-GenRun.ensures))
+
+pub returns-in-None-clause-made : goal.returns-in-None-clause-made
+returns-in-None-clause-made g c = λ seed requests is. c.in-None.ensures (Gen seed requests, is)
+
+pub returns-in-None-clause-made_run : goal.returns-in-None-clause-made_run
+returns-in-None-clause-made_run g c = λ seed requests is. c.in-None.ensures (GenRun seed requests, is)

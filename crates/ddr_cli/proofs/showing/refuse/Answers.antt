@@ -1,4 +1,4 @@
-use Rattle.std.proofs.Common.{◌≡◌, ◌∙◌, ◌<◌, ℕ, List, length, sym, subst}
+use Rattle.std.proofs.Common.{◌∙◌, ◌<◌, ℕ, List, length, sym, subst}
 use Rattle.ddr_io.specs.Sink.{AppendsPrefix}
 use Rattle.ddr_text.specs.declared.lines.ReportLine.TheVariants.{Refused}
 use Rattle.ddr_cli.proofs.ShowLemmas.{cut_rose, refused_cut, some_bytes}

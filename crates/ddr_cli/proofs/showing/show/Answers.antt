@@ -1,9 +1,9 @@
-use Rattle.std.proofs.Common.{◌≡◌, ◌∙◌, [], sym, ap, subst}
+use Rattle.std.proofs.Common.{◌∙◌, [], sym, ap, subst}
 use Rattle.ddr_io.specs.Line.{next_bytes}
 use Rattle.ddr_text.specs.Opening.{IsOpening}
 use Rattle.ddr_text.specs.declared.opening.Opening.TheVariants.{Accepted}
 use Rattle.log_auditor.specs.Reading.{Place}
-use Rattle.ddr_cli.specs.Shown.{IsShown, ShowAnswers}
+use Rattle.ddr_cli.specs.Shown.{IsShown}
 use Rattle.ddr_cli.proofs.ShowLemmas.{answers_broken, answers_usage, opened_at, shows_accepted, shows_no_memory, shows_refused, shows_unread}
 use Rattle.ddr_cli.proofs.showing.show.Goals as goal
 use Rattle.ddr_cli.proofs.showing.show.Goals.{in-Accepted, in-Refused, in-Failed}

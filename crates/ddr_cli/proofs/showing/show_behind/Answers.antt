@@ -1,4 +1,4 @@
-use Rattle.std.proofs.Common.{◌≡◌, ◌∙◌, ◌++◌, ◌∷◌, [], refl, ap, arith}
+use Rattle.std.proofs.Common.{arith}
 use Rattle.ddr_io.specs.Line.{next_bytes}
 use Rattle.ddr_cli.proofs.ShowLemmas.{cut_no_read, cut_rose, fewer_left, first_shown, next_shown, refusal_no_read, rose_later, shows_all, shows_cut, shows_fault, shows_refusal}
 use Rattle.ddr_cli.proofs.showing.show_behind.Goals as goal

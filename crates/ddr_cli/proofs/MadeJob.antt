@@ -1,0 +1,145 @@
+-- The bytes of a made job are a job: its header, its requests, and nothing to refuse.
+use Rattle.std.proofs.Common.{◌≡◌, ◌∙◌, ◌≢◌, ℕ, ◌+◌, ◌≤◌, ◌<◌, true, false, Bool, List, [], ◌∷◌, ◌++◌, Some, None, Ok, refl, sym, ap, length, drop, nat_le, arith, append_assoc, append-nil, length-append}
+use Rattle.std.specs.Prelude.{codes}
+use Rattle.std.specs.List.{All, flat_map, slice_split, onto_first}
+use Rattle.std.proofs.lemmas.Bool.{ne_eqb}
+use Rattle.std.proofs.Transfers.{drop-appended}
+use Rattle.std.proofs.lemmas.List.Elements.{All-head, All-tail, All-weaker}
+use Rattle.std.proofs.lemmas.List.Splits.{slice_split_at, slice_split-cons_yes, slice_split-cons_no}
+use Rattle.ddr_io.specs.Line.{HasNoFeed}
+use Rattle.ddr_text.specs.Opening.{Accepts, is_feed, is_long, parts_of, header_text as text_before, judged, behind, with_text, opening_of}
+use Rattle.ddr_text.specs.declared.lines.TraceLine.{TraceLine}
+use Rattle.ddr_text.specs.declared.lines.TraceLine.TheVariants.{Read, Write, Flip, Idle}
+use Rattle.speed_bin.specs.Document.{header_stated}
+use Rattle.made_jobs.specs.Made.{header_text, header_lines, opening, made, made_trace}
+use Rattle.made_jobs.specs.Replayed.{IsReadBack, IsRequest, made_header, made_shape}
+use Rattle.made_jobs.specs.TraceText.{with_feed, spelled_line, trace_text}
+use Rattle.reports.specs.Barriers.{idle_clocks}
+use Rattle.trace_replay.specs.Job.{IsJobOf, with_line, with_part, continued, ended, trace_from}
+
+-- ---- Parts
+
+not_feed : (byte : ℕ) → byte ≢ 10 → is_feed byte ≡ false
+not_feed byte h = ne_eqb byte 10 h
+
+-- the parts of a line with its line feed, and of what is behind it
+line_part : (line rest : List ℕ) → HasNoFeed line → parts_of (with_feed line ++ rest) ≡ line ∷ parts_of rest
+unfolding parts_of
+line_part line rest h =
+    ap (slice_split is_feed) (append_assoc line (10 ∷ []) rest)
+    ∙ slice_split_at is_feed line 10 rest (All-weaker (λ byte. byte ≢ 10) (λ byte. is_feed byte ≡ false) not_feed line h) refl
+
+-- the parts of no bytes
+no_part : parts_of [] ≡ [] ∷ []
+unfolding parts_of
+no_part = refl
+
+-- bytes have one part at least
+some_part : (bytes : List ℕ) → (first : List ℕ) × (rest : List (List ℕ)) × (parts_of bytes ≡ first ∷ rest)
+unfolding parts_of
+some_part [] = ([], [], refl)
+some_part (byte ∷ bytes) = go (is_feed byte) refl (some_part bytes)
+  where
+    go : (b : Bool) → is_feed byte ≡ b → ((first : List ℕ) × (rest : List (List ℕ)) × (slice_split is_feed bytes ≡ first ∷ rest))
+        → (first : List ℕ) × (rest : List (List ℕ)) × (slice_split is_feed (byte ∷ bytes) ≡ first ∷ rest)
+    go true e more = ([], slice_split is_feed bytes, slice_split-cons_yes is_feed byte bytes e)
+    go false e more = (byte ∷ more.0, more.1, slice_split-cons_no is_feed byte bytes e ∙ ap (onto_first byte) more.2)
+
+-- ---- The trace
+
+-- the parts of the lines of a trace
+abbrev trace_parts : List TraceLine → List (List ℕ)
+trace_parts [] = [] ∷ []
+trace_parts (line ∷ lines) = trace_text line ∷ trace_parts lines
+
+parts_of-lines : (lines : List TraceLine) → All IsReadBack lines → parts_of (flat_map spelled_line lines) ≡ trace_parts lines
+unfolding spelled_line
+parts_of-lines [] all = no_part
+parts_of-lines (line ∷ lines) all =
+    let first : IsReadBack line = All-head IsReadBack line lines all in
+    line_part (trace_text line) (flat_map spelled_line lines) first.text.1
+    ∙ ap (λ parts. trace_text line ∷ parts) (parts_of-lines lines (All-tail IsReadBack line lines all))
+
+-- the clocks of no I line
+no_clocks : (lines : List TraceLine) (line : TraceLine) → IsRequest line → idle_clocks lines ≡ [] → idle_clocks (lines ++ line ∷ []) ≡ []
+no_clocks [] (Read at) is none = refl
+no_clocks [] (Write at bytes) is none = refl
+no_clocks [] (Flip at device bit) is none = absurd is
+no_clocks [] (Idle clocks) is none = absurd is
+no_clocks (Read at ∷ lines) line is none = no_clocks lines line is none
+no_clocks (Write at bytes ∷ lines) line is none = no_clocks lines line is none
+no_clocks (Flip at device bit ∷ lines) line is none = no_clocks lines line is none
+no_clocks (Idle clocks ∷ lines) line is none = absurd cc
+
+-- a request is one line more
+one_line : (lines : List TraceLine) (line : TraceLine) → IsRequest line → idle_clocks lines ≡ [] → with_line lines line ≡ Ok (lines ++ line ∷ [])
+one_line lines (Read at) is none = rw none refl
+one_line lines (Write at bytes) is none = rw none refl
+one_line lines (Flip at device bit) is none = absurd is
+one_line lines (Idle clocks) is none = absurd is
+
+room_left : (n most : ℕ) → n < most → nat_le most n ≡ false
+room_left n most few = grind (arith, few)
+
+not_long : (text : List ℕ) → length text < 512 → is_long text ≡ false
+not_long text short = grind (arith, short)
+
+one_part : (lines : List TraceLine) (line : TraceLine) → length lines < 1048576 → idle_clocks lines ≡ [] → IsReadBack line → with_part made_shape lines (trace_text line) ≡ Ok (lines ++ line ∷ [])
+one_part lines line few none back =
+    rw (room_left (length lines) 1048576 few, not_long (trace_text line) back.text.0, back.reads) (one_line lines line back.request none)
+
+-- the parts of the lines that are left are read as these lines, behind those before them
+read_from : (lines more : List TraceLine) → All IsReadBack more → idle_clocks lines ≡ [] → length lines + length more ≤ 1048576 → trace_from made_shape lines (trace_parts more) ≡ ended (lines ++ more)
+read_from lines [] all none few = ap ended (sym (append-nil lines))
+read_from lines (line ∷ []) all none few =
+    let back : IsReadBack line = All-head IsReadBack line [] all in
+    ap (λ next. continued lines next (λ longer. trace_from made_shape longer ([] ∷ []))) (one_part lines line (omega (arith, few)) none back)
+read_from lines (line ∷ next ∷ more) all none few =
+    let back : IsReadBack line = All-head IsReadBack line (next ∷ more) all in
+    ap (λ result. continued lines result (λ longer. trace_from made_shape longer (trace_text next ∷ trace_parts more))) (one_part lines line (omega (arith, few)) none back)
+    ∙ read_from (lines ++ line ∷ []) (next ∷ more) (All-tail IsReadBack line (next ∷ more) all) (no_clocks lines line back.request none) (omega (arith, few, length-append lines (line ∷ [])))
+    ∙ ap ended (append_assoc lines (line ∷ []) (next ∷ more))
+
+-- ---- The opening
+
+-- the lines of the header, the separator, and what is behind it
+opening_parts : (rest : List ℕ) → parts_of (opening ++ rest) ≡ header_lines ++ codes "---" ∷ parts_of rest
+unfolding parts_of opening header_text header_lines
+opening_parts rest = refl
+
+text_read : (first : List ℕ) (more : List (List ℕ)) → text_before [] (header_lines ++ codes "---" ∷ first ∷ more) ≡ Ok header_text
+unfolding header_text header_lines
+text_read first more = refl
+
+rest_left : (rest : List ℕ) → drop (length header_text + 4) (opening ++ rest) ≡ rest
+unfolding opening
+rest_left rest =
+    ap (λ n. drop n ((header_text ++ with_feed (codes "---")) ++ rest)) (sym (length-append header_text (with_feed (codes "---"))))
+    ∙ drop-appended (header_text ++ with_feed (codes "---")) ((header_text ++ with_feed (codes "---")) ++ rest) rest refl
+
+opens : header_stated header_text ≡ Ok made_header → (rest : List ℕ) → opening_of (opening ++ rest) ≡ Accepts made_header header_text rest
+opens stated rest =
+    let part = some_part rest in
+    ap (λ parts. with_text (opening ++ rest) (text_before [] parts)) (opening_parts rest ∙ ap (λ parts. header_lines ++ codes "---" ∷ parts) part.2)
+    ∙ ap (with_text (opening ++ rest)) (text_read part.0 part.1)
+    ∙ ap (judged header_text (behind header_text (opening ++ rest))) stated
+    ∙ ap (Accepts made_header header_text) (rest_left rest)
+
+-- ---- The job
+
+-- what the laws on made jobs say
+pub record Laws : Type 0 where
+  pub stated : header_stated header_text ≡ Ok made_header
+  pub reads : (seed requests : ℕ) → All IsReadBack (made_trace seed requests)
+  pub count : (seed requests : ℕ) → length (made_trace seed requests) ≡ requests
+
+pub made_is_job : Laws → (seed requests : ℕ) → requests ≤ 1048576 → IsJobOf (Some (made seed requests)) made_header header_text (made_trace seed requests) None
+unfolding made made_header
+made_is_job laws seed requests few =
+    let lines = made_trace seed requests in
+    let back = laws.reads seed requests in
+    let same = laws.count seed requests in (
+      flat_map spelled_line lines,
+      opens laws.stated (flat_map spelled_line lines),
+      ap (trace_from made_shape []) (parts_of-lines lines back) ∙ read_from [] lines back refl (omega (arith, same)),
+    )

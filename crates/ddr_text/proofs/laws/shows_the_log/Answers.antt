@@ -1,5 +1,0 @@
-use Rattle.ddr_text.proofs.Logged.{logged as logged_law}
-use Rattle.ddr_text.proofs.laws.shows_the_log.Goals as goal
-
-pub returns : goal.returns
-returns c = logged_law

@@ -1,0 +1,26 @@
+use Rattle.std.proofs.Common.{◌∙◌, sym, subst, arith}
+use Rattle.trace_replay.specs.Held.{Kept}
+use Rattle.trace_replay.proofs.Answering.{Remains, remains-next, remains-cut, remains-kept, remains-wrote}
+use Rattle.trace_replay.proofs.Pieces.{if_err}
+use Rattle.trace_replay.proofs.answers.put_answers.Goals as goal
+
+pub answers-preserved : goal.answers-preserved
+answers-preserved g c = record {
+  remains = λ h trace run before rs e.
+      subst (λ (k : Kept). Remains h trace run before rs k (g.K.Sink.written c.args.sink.now) (g.K.Sink.written c.put_answer.new.sink)) (sym c.in-Some.ensures.some)
+      (remains-next h trace run before rs c.answers.held (g.K.Sink.written c.args.sink.now) (g.K.Sink.written c.answers.sink) (g.K.Sink.written c.put_answer.new.sink) c.in-Some.served c.in-Some.ensures.first (c.answers.invariant.remains h trace run before rs e) c.in_ok-put_answer-in-Some.ensures.whole);
+  later = omega (arith, c.answers.invariant.later, c.put_answer.ensures.later);
+}
+
+pub returns-in_err-put_answer-in-Some-clause-cut : goal.returns-in_err-put_answer-in-Some-clause-cut
+returns-in_err-put_answer-in-Some-clause-cut g c =
+    if_err c.from_residual.result _ (λ h trace run before rs e.
+    remains-cut h trace run before rs c.answers.held (g.K.Sink.written c.args.sink.now) (g.K.Sink.written c.answers.sink) (g.K.Sink.written c.put_answer.new.sink) c.in-Some.served c.in-Some.ensures.first (c.answers.invariant.remains h trace run before rs e) c.in_err-put_answer-in-Some.ensures.cut)
+
+pub returns-in-None-clause-held : goal.returns-in-None-clause-held
+returns-in-None-clause-held g c = λ h trace run before rs e.
+    c.in-None.ensures.none ∙ remains-kept h trace run before rs c.answers.held (g.K.Sink.written c.args.sink.now) (g.K.Sink.written c.answers.sink) c.in-None.ensures.first (c.answers.invariant.remains h trace run before rs e)
+
+pub returns-in-None-clause-wrote : goal.returns-in-None-clause-wrote
+returns-in-None-clause-wrote g c = λ h trace run before rs e.
+    remains-wrote h trace run before rs c.answers.held (g.K.Sink.written c.args.sink.now) (g.K.Sink.written c.answers.sink) c.in-None.ensures.first (c.answers.invariant.remains h trace run before rs e)

@@ -1,0 +1,44 @@
+use Rattle.std.proofs.Common.{ap, ◌≡◌, None, arith}
+use Rattle.ddr_io.specs.Line.{next_bytes}
+use Rattle.trace_replay.specs.declared.trace_lines.Tally.{Tally}
+use Rattle.trace_replay.proofs.Pieces.{if_err}
+use Rattle.trace_replay.proofs.Under.{under-none, under-lines}
+use Rattle.trace_replay.proofs.progress.Progress.offer_all.Goals as goal
+
+pub returns-in_err-look_ahead-clause-cut : goal.returns-in_err-look_ahead-clause-cut
+returns-in_err-look_ahead-clause-cut g c =
+    if_err c.from_residual.result _ (λ h start before written u. c.in_err-look_ahead.ensures.cut h start before written (c.lines.invariant.under h start before written u))
+
+pub offer_next-requires-clause-holds : goal.offer_next-requires-clause-holds
+offer_next-requires-clause-holds g c =
+    let k = c.lines.invariant.holds in
+    let u = c.in_ok-look_ahead.ensures.under k.0 None None None (under-none k.0 c.lines.self k.1 k.2 (next_bytes c.lines.reader.held (g.S.Source.left c.lines.source)) k.3) in
+    (k.0, u.trace, u.run, u.holds)
+
+pub returns-then-not-offer_next-clause-ready : goal.returns-then-not-offer_next-clause-ready
+returns-then-not-offer_next-clause-ready g c = λ h start before written u.
+    let v = c.offer_next.ensures.under h start (next_bytes c.look_ahead.new.reader.held (g.S.Source.left c.look_ahead.new.source)) before written (c.in_ok-look_ahead.ensures.under h start before written (c.lines.invariant.under h start before written u)) in
+    record { under = v; filled = c.offer_next.ensures.filled h v.trace v.run c.if-not-offer_next.true v.holds }
+
+pub lines-smaller : goal.lines-smaller
+lines-smaller g c =
+    let k = c.lines.invariant.holds in
+    let u = c.in_ok-look_ahead.ensures.under k.0 None None None (under-none k.0 c.lines.self k.1 k.2 (next_bytes c.lines.reader.held (g.S.Source.left c.lines.source)) k.3) in
+    let v = c.offer_next.ensures.under k.0 None (next_bytes c.look_ahead.new.reader.held (g.S.Source.left c.look_ahead.new.source)) None None u in
+    let most = under-lines k.0 c.offer_next.new.self None (next_bytes c.look_ahead.new.reader.held (g.S.Source.left c.look_ahead.new.source)) None None v in
+    let one = c.offer_next.ensures.line c.if-not-offer_next.false in
+    let same : c.look_ahead.new.self.tally.lines ≡ c.lines.self.tally.lines = ap (λ (t : Tally). t.lines) c.look_ahead.ensures.lines in
+    omega (arith, one, same, most)
+
+pub lines-preserved : goal.lines-preserved
+lines-preserved g c =
+    let k = c.lines.invariant.holds in
+    let u = c.in_ok-look_ahead.ensures.under k.0 None None None (under-none k.0 c.lines.self k.1 k.2 (next_bytes c.lines.reader.held (g.S.Source.left c.lines.source)) k.3) in
+    let v = c.offer_next.ensures.under k.0 None (next_bytes c.look_ahead.new.reader.held (g.S.Source.left c.look_ahead.new.source)) None None u in
+    record {
+      holds = (k.0, v.trace, v.run, v.holds);
+      under = λ h start before written w. c.offer_next.ensures.under h start (next_bytes c.look_ahead.new.reader.held (g.S.Source.left c.look_ahead.new.source)) before written (c.in_ok-look_ahead.ensures.under h start before written (c.lines.invariant.under h start before written w));
+      going_on = c.offer_next.ensures.goes_on c.look_ahead.new.reader.last c.in_ok-look_ahead.ensures.going_on;
+      fewer = omega (arith, c.lines.invariant.fewer, c.look_ahead.ensures.fewer, c.offer_next.ensures.fewer);
+      later = omega (arith, c.lines.invariant.later, c.look_ahead.ensures.later);
+    }

@@ -1,0 +1,21 @@
+use Rattle.std.proofs.Common.{ℕ, ◌≤◌, ◌-◌, Option, List}
+use Rattle.ddr_io.specs.Line.{next_bytes}
+use Rattle.speed_bin.specs.declared.header.Header.{Header}
+use Rattle.ddr_text.specs.declared.lines.TraceLine.{TraceLine}
+use Rattle.reports.specs.Runs.{Run}
+use Rattle.trace_replay.specs.Job.{MOST}
+use Rattle.trace_replay.specs.Progress.{Holds, IsUnder, MayGoOn, left_of}
+use Rattle.trace_replay.proofs.progress.Progress.offer_all.Given as goal
+
+abbrev pub invariant-lines : goal.invariant-lines
+invariant-lines g l = record {
+  holds : (h : Header) × (trace : List TraceLine) × (run : Run) × Holds h l.self trace run;
+  under : (h : Header) (start before written : Option (List ℕ)) → IsUnder h l.initial.self start (next_bytes l.initial.reader.held (g.S.Source.left l.initial.source)) before written
+      → IsUnder h l.self start (next_bytes l.reader.held (g.S.Source.left l.source)) before written;
+  going_on : MayGoOn l.self.ahead l.reader.last;
+  fewer : left_of l.self ≤ left_of l.initial.self;
+  later : g.S.Source.faults l.initial.source ≤ g.S.Source.faults l.source;
+}
+
+abbrev pub decreases-lines : goal.decreases-lines
+decreases-lines g l = MOST - l.self.tally.lines

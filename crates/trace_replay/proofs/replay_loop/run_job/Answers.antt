@@ -1,0 +1,21 @@
+use Rattle.std.proofs.Common.{ap}
+use Rattle.ddr_io.specs.Line.{next_bytes}
+use Rattle.ddr_io.specs.Reading.{Reading}
+use Rattle.trace_replay.proofs.LoopOpened.{opened, run-complete}
+use Rattle.trace_replay.proofs.replay_loop.run_job.Goals as goal
+
+pub returns-in-Ok-Accepted-clause-answer : goal.returns-in-Ok-Accepted-clause-answer
+returns-in-Ok-Accepted-clause-answer g c =
+    opened c.in-Ok-Accepted.field-0 c.run_trace.result c.in-Ok-Accepted.header c.in-Ok-Accepted.text c.new-reader.result.held (g.S.Source.left c.args.source.now) (next_bytes c.open_job.new.reader.held (g.S.Source.left c.open_job.new.source))
+    (g.S.Source.left c.run_trace.new.source) (g.K.Sink.written c.args.sink.now) (g.K.Sink.written c.run_trace.new.sink) c.in-Ok-Accepted.field-0-is
+    (ap (λ (r : Reading). r.held) c.new-reader.ensures) c.in-Ok-Accepted.ensures.opening c.in-Ok-Accepted.ensures.answer c.run_trace.ensures.answer
+
+pub returns-in-Ok-Accepted-clause-complete : goal.returns-in-Ok-Accepted-clause-complete
+returns-in-Ok-Accepted-clause-complete g c = λ bytes h text trace is job.
+    run-complete c.run_trace.result (g.S.Source.left c.args.source.now) (g.S.Source.left c.run_trace.new.source) (g.K.Sink.written c.args.sink.now) (g.K.Sink.written c.run_trace.new.sink) bytes h text trace
+    (opened c.in-Ok-Accepted.field-0 c.run_trace.result c.in-Ok-Accepted.header c.in-Ok-Accepted.text c.new-reader.result.held (g.S.Source.left c.args.source.now) (next_bytes c.open_job.new.reader.held (g.S.Source.left c.open_job.new.source))
+    (g.S.Source.left c.run_trace.new.source) (g.K.Sink.written c.args.sink.now) (g.K.Sink.written c.run_trace.new.sink) c.in-Ok-Accepted.field-0-is
+    (ap (λ (r : Reading). r.held) c.new-reader.ensures) c.in-Ok-Accepted.ensures.opening c.in-Ok-Accepted.ensures.answer c.run_trace.ensures.answer) is job
+
+pub returns-in-Ok-Refused-clause-cause : goal.returns-in-Ok-Refused-clause-cause
+returns-in-Ok-Refused-clause-cause g c = c.refuse_opening.ensures.cause (g.S.Source.faults c.args.source.now) (g.S.Source.faults c.open_job.new.source)

@@ -1,0 +1,55 @@
+use Rattle.std.proofs.Common.{arith, None}
+use Rattle.ddr_io.specs.Line.{next_bytes}
+use Rattle.std.proofs.lemmas.Result.{err_from_is_err_and}
+use Rattle.trace_replay.proofs.Under.{under-none}
+use Rattle.trace_replay.proofs.LoopEnd.{stops-reading, stops-writing, under-any, turned-over, turned-under}
+use Rattle.trace_replay.proofs.replay_loop.serve.Goals as goal
+
+pub returns-in_err-offer_all-clause-cut : goal.returns-in_err-offer_all-clause-cut
+returns-in_err-offer_all-clause-cut g c =
+    let p = err_from_is_err_and c.from_residual.result c.from_residual.ensures.1 in
+    rw (p.1, p.2) (λ h start before u.
+    stops-reading c.in_err-offer_all.field-0.0 h (g.S.Source.faults c.turns.source) (g.S.Source.faults c.offer_all.new.source) start (g.S.Source.left c.offer_all.new.source) before (g.K.Sink.written c.turns.sink) c.in_err-offer_all.ensures.cause
+    (c.in_err-offer_all.ensures.cut h start before (g.K.Sink.written c.turns.sink) (c.turns.invariant.under h start before u)))
+
+pub turn-requires : goal.turn-requires
+turn-requires g c =
+    let k = c.turns.invariant.holds in
+    let r = c.in_ok-offer_all.ensures.ready k.0 None None None (under-none k.0 c.turns.progress k.1 k.2 (next_bytes c.turns.reader.held (g.S.Source.left c.turns.source)) k.3) in
+    record { ready = (k.0, r.under.trace, r.under.run, r.under.holds, r.filled) }
+
+pub returns-in_err-turn-clause-cut : goal.returns-in_err-turn-clause-cut
+returns-in_err-turn-clause-cut g c =
+    let p = err_from_is_err_and c.from_residual-in_err-turn.result c.from_residual-in_err-turn.ensures.1 in
+    rw (p.1, p.2) (λ h start before u.
+    stops-writing c.in_err-turn.field-0.0 h (g.K.Sink.faults c.turns.sink) (g.K.Sink.faults c.turn.new.sink) start (g.S.Source.left c.offer_all.new.source) before (g.K.Sink.written c.turn.new.sink) c.in_err-turn.ensures.cause
+    (c.in_err-turn.ensures.cut h start (next_bytes c.offer_all.new.reader.held (g.S.Source.left c.offer_all.new.source)) before (c.in_ok-offer_all.ensures.ready h start before (g.K.Sink.written c.turns.sink) (c.turns.invariant.under h start before u))))
+
+pub returns-then-not-branch-clause-holds : goal.returns-then-not-branch-clause-holds
+returns-then-not-branch-clause-holds g c =
+    let k = c.turns.invariant.holds in
+    let r = c.in_ok-offer_all.ensures.ready k.0 None None (g.K.Sink.written c.turns.sink) (under-any k.0 c.turns.progress k.1 k.2 (next_bytes c.turns.reader.held (g.S.Source.left c.turns.source)) (g.K.Sink.written c.turns.sink) k.3) in
+    let o = turned-over c.in_ok-turn.field-0 k.0 c.turn.new.self None (next_bytes c.offer_all.new.reader.held (g.S.Source.left c.offer_all.new.source)) None (g.K.Sink.written c.turn.new.sink) c.if-not-branch.true
+    (c.in_ok-turn.ensures.after k.0 None (next_bytes c.offer_all.new.reader.held (g.S.Source.left c.offer_all.new.source)) None r) in
+    (k.0, o.under.trace, o.under.run, o.under.holds)
+
+pub returns-then-not-branch-clause-over : goal.returns-then-not-branch-clause-over
+returns-then-not-branch-clause-over g c = λ h start before u.
+    turned-over c.in_ok-turn.field-0 h c.turn.new.self start (next_bytes c.offer_all.new.reader.held (g.S.Source.left c.offer_all.new.source)) before (g.K.Sink.written c.turn.new.sink) c.if-not-branch.true
+    (c.in_ok-turn.ensures.after h start (next_bytes c.offer_all.new.reader.held (g.S.Source.left c.offer_all.new.source)) before (c.in_ok-offer_all.ensures.ready h start before (g.K.Sink.written c.turns.sink) (c.turns.invariant.under h start before u)))
+
+pub turns-preserved : goal.turns-preserved
+turns-preserved g c =
+    let k = c.turns.invariant.holds in
+    let r = c.in_ok-offer_all.ensures.ready k.0 None None (g.K.Sink.written c.turns.sink) (under-any k.0 c.turns.progress k.1 k.2 (next_bytes c.turns.reader.held (g.S.Source.left c.turns.source)) (g.K.Sink.written c.turns.sink) k.3) in
+    let u = turned-under c.in_ok-turn.field-0 k.0 c.turn.new.self None (next_bytes c.offer_all.new.reader.held (g.S.Source.left c.offer_all.new.source)) None (g.K.Sink.written c.turn.new.sink) c.if-not-branch.false
+    (c.in_ok-turn.ensures.after k.0 None (next_bytes c.offer_all.new.reader.held (g.S.Source.left c.offer_all.new.source)) None r) in
+    record {
+      holds = (k.0, u.trace, u.run, u.holds);
+      under = λ h start before v.
+          turned-under c.in_ok-turn.field-0 h c.turn.new.self start (next_bytes c.offer_all.new.reader.held (g.S.Source.left c.offer_all.new.source)) before (g.K.Sink.written c.turn.new.sink) c.if-not-branch.false
+          (c.in_ok-turn.ensures.after h start (next_bytes c.offer_all.new.reader.held (g.S.Source.left c.offer_all.new.source)) before (c.in_ok-offer_all.ensures.ready h start before (g.K.Sink.written c.turns.sink) (c.turns.invariant.under h start before v)));
+      going_on = c.turn.ensures.reader c.offer_all.new.reader.last c.in_ok-offer_all.ensures.going_on;
+      later = omega (arith, c.turns.invariant.later, c.offer_all.ensures.later);
+      later_written = omega (arith, c.turns.invariant.later_written, c.turn.ensures.later);
+    }
