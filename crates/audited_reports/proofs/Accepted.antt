@@ -1,0 +1,177 @@
+-- A header that a text states is accepted.
+use Rattle.std.proofs.Common.{◌≡◌, ◌∙◌, ap, refl, ℕ, suc, Bool, true, false, not, ◌&&◌, List, [], ◌∷◌, codes, Option, Some, None, Result, Ok, Err, arith, subst}
+use Rattle.std.specs.Prelude.{option_and_then, if◌then◌else◌}
+use Rattle.std.specs.Str.{is_utf8, bytes_eq}
+use Rattle.std.proofs.lemmas.Bool.{and_parts, leb-true}
+use Rattle.std.proofs.lemmas.Bool.Decides.{nat_tests}
+use Rattle.toml.specs.Data.{Members}
+use Rattle.toml.specs.Parse.{parse_document}
+use Rattle.ddr_text.specs.Opening.{Accepts, behind, header_text, judged, opening_of, parts_of, with_text}
+use Rattle.speed_bin.specs.Document.{checks_of, failed, header_in, header_of, header_stated, round_within_half, settings_in, text_at, thresholds_fit, timing_in, window_fits, with_bin}
+use Rattle.speed_bin.specs.Header.{Checks, IsAccepted}
+use Rattle.speed_bin.specs.Keys.{all_members, has_required, key_fits, kind_fits, range_fits}
+use Rattle.speed_bin.specs.Rules.{first_failing}
+use Rattle.speed_bin.specs.Timing.{IsTiming, bin_named, prac_4800, tiny}
+use Rattle.speed_bin.specs.declared.fault.HeaderFault.{HeaderFault}
+use Rattle.speed_bin.specs.declared.fault.HeaderFault.TheVariants.{NotToml, Key, Kind, Range}
+use Rattle.speed_bin.specs.declared.header.Header.{Header}
+use Rattle.speed_bin.specs.declared.timing.Timing.{Timing}
+use Rattle.audited_reports.proofs.Members.{settings-fit, timing-fits}
+
+-- ---- The checks
+
+abbrev AllHold : List Bool → Type 0
+AllHold [] = Unit {0}
+AllHold (test ∷ tests) = (test ≡ true) × AllHold tests
+
+all-hold : (n : ℕ) (tests : List Bool) → first_failing n tests ≡ None → AllHold tests
+all-hold n [] none = tt
+all-hold n (true ∷ tests) none = (refl, all-hold (suc n) tests none)
+all-hold n (false ∷ tests) none = cc
+
+checks-pass : (h : Header) → first_failing 1 (checks_of h) ≡ None → Checks h
+unfolding checks_of window_fits thresholds_fit round_within_half
+checks-pass h none =
+    let (one, from_2) = all-hold 1 (checks_of h) none in
+    let (two, from_3) = from_2 in
+    let (three, from_4) = from_3 in
+    let (four, from_5) = from_4 in
+    let (five, from_6) = from_5 in
+    let (six, from_7) = from_6 in
+    let (seven, from_8) = from_7 in
+    let eight = from_8.0 in
+    let (ath, eth) = and_parts _ _ three in
+    let (least, most) = and_parts _ _ four in
+    let (burst, others) = and_parts _ _ eight in
+    let (read, write) = and_parts _ _ others in
+    record {
+      precharge_within_cycle = leb-true _ _ one;
+      window = leb-true _ _ two;
+      thresholds = (leb-true _ _ ath, leb-true _ _ eth);
+      management = (leb-true _ _ least, leb-true _ _ most);
+      closing_within_two = leb-true _ _ five;
+      round_within_half = leb-true _ _ six;
+      latencies = grind (arith, nat_tests);
+      bursts = (leb-true _ _ burst, leb-true _ _ read, leb-true _ _ write);
+    }
+
+-- ---- The bins
+
+prac-fits : IsTiming prac_4800
+prac-fits = record {
+  ncl = (omega arith, omega arith);
+  ncwl = (omega arith, omega arith);
+  nrcd = (omega arith, omega arith);
+  nrp = (omega arith, omega arith);
+  nras = (omega arith, omega arith);
+  nrc = (omega arith, omega arith);
+  nrrd_s = (omega arith, omega arith);
+  nrrd_l = (omega arith, omega arith);
+  nfaw = (omega arith, omega arith);
+  nccd_s = (omega arith, omega arith);
+  nccd_l = (omega arith, omega arith);
+  nccd_l_wr = (omega arith, omega arith);
+  nwtr_s = (omega arith, omega arith);
+  nwtr_l = (omega arith, omega arith);
+  nrtp = (omega arith, omega arith);
+  nwr = (omega arith, omega arith);
+  nrfc = (omega arith, omega arith);
+  nrfcsb = (omega arith, omega arith);
+  nrfm = (omega arith, omega arith);
+  nrfmsb = (omega arith, omega arith);
+  nrefi = (omega arith, omega arith);
+  nabo = (omega arith, omega arith);
+  nmrd = (omega arith, omega arith);
+  necs = (omega arith, omega arith);
+}
+
+tiny-fits : IsTiming tiny
+tiny-fits = record {
+  ncl = (omega arith, omega arith);
+  ncwl = (omega arith, omega arith);
+  nrcd = (omega arith, omega arith);
+  nrp = (omega arith, omega arith);
+  nras = (omega arith, omega arith);
+  nrc = (omega arith, omega arith);
+  nrrd_s = (omega arith, omega arith);
+  nrrd_l = (omega arith, omega arith);
+  nfaw = (omega arith, omega arith);
+  nccd_s = (omega arith, omega arith);
+  nccd_l = (omega arith, omega arith);
+  nccd_l_wr = (omega arith, omega arith);
+  nwtr_s = (omega arith, omega arith);
+  nwtr_l = (omega arith, omega arith);
+  nrtp = (omega arith, omega arith);
+  nwr = (omega arith, omega arith);
+  nrfc = (omega arith, omega arith);
+  nrfcsb = (omega arith, omega arith);
+  nrfm = (omega arith, omega arith);
+  nrfmsb = (omega arith, omega arith);
+  nrefi = (omega arith, omega arith);
+  nabo = (omega arith, omega arith);
+  nmrd = (omega arith, omega arith);
+  necs = (omega arith, omega arith);
+}
+
+bin-fits : (name : List ℕ) (bin : Timing) → bin_named name ≡ Some bin → IsTiming bin
+bin-fits name bin e = go (bytes_eq name (codes "4800-prac")) (bytes_eq name (codes "tiny")) e
+  where
+    go : (first second : Bool) → (if first then Some prac_4800 else (if second then Some tiny else None)) ≡ Some bin → IsTiming bin
+    go true second f = let same : prac_4800 ≡ bin = cc in subst IsTiming same prac-fits
+    go false true f = let same : tiny ≡ bin = cc in subst IsTiming same tiny-fits
+    go false false f = absurd cc
+
+named-fits : (name : Option (List ℕ)) (bin : Timing) → option_and_then bin_named name ≡ Some bin → IsTiming bin
+named-fits None bin e = absurd cc
+named-fits (Some name) bin e = bin-fits name bin e
+
+-- ---- The header
+
+checked-accepted : (made h : Header) (check : Option ℕ) → first_failing 1 (checks_of made) ≡ check → failed made check ≡ Ok h → (made ≡ h) × (first_failing 1 (checks_of made) ≡ None)
+checked-accepted made h None is e = (cc, is)
+checked-accepted made h (Some check) is e = absurd cc
+
+with-bin-accepted : (top : Members) (bin : Option Timing) (h : Header) → ((t : Timing) → bin ≡ Some t → IsTiming t) → has_required top ≡ true → all_members range_fits top ≡ true → with_bin top bin ≡ Ok h → IsAccepted h
+with-bin-accepted top None h named required ranges e = absurd cc
+with-bin-accepted top (Some bin) h named required ranges e =
+    let made : Header = record { timing = timing_in bin top; settings = settings_in top } in
+    let both = checked-accepted made h (first_failing 1 (checks_of made)) refl e in
+    subst IsAccepted both.0 (record {
+      timing = timing-fits bin top (named bin refl) ranges;
+      settings = settings-fit top required ranges;
+      checks = checks-pass made both.1;
+    })
+
+members-accepted : (top : Members) (h : Header) → header_in top ≡ Ok h → IsAccepted h
+members-accepted top h e =
+    go (all_members key_fits top && has_required top) (all_members kind_fits top) (all_members range_fits top) refl refl e
+  where
+    go : (keys kinds ranges : Bool) → (all_members key_fits top && has_required top) ≡ keys → all_members range_fits top ≡ ranges
+        → ◌≡◌ {A = Result Header HeaderFault} (if not keys then Err Key else (if not kinds then Err Kind else (if not ranges then Err Range else with_bin top (option_and_then bin_named (text_at (codes "bin") top))))) (Ok h) → IsAccepted h
+    go false kinds ranges a b f = absurd cc
+    go true false ranges a b f = absurd cc
+    go true true false a b f = absurd cc
+    go true true true a b f = with-bin-accepted top (option_and_then bin_named (text_at (codes "bin") top)) h (named-fits (text_at (codes "bin") top)) (and_parts (all_members key_fits top) (has_required top) a).1 b f
+
+document-accepted : (top : Option Members) (h : Header) → header_of top ≡ Ok h → IsAccepted h
+document-accepted None h e = absurd cc
+document-accepted (Some top) h e = members-accepted top h e
+
+stated-accepted : (text : List ℕ) (h : Header) → header_stated text ≡ Ok h → IsAccepted h
+stated-accepted text h e = go (is_utf8 text) e
+  where
+    go : (utf8 : Bool) → (if utf8 then header_of (parse_document text) else Err NotToml) ≡ Ok h → IsAccepted h
+    go true f = document-accepted (parse_document text) h f
+    go false f = absurd cc
+
+-- A header that opens a job is accepted.
+pub opens-accepted : (h : Header) (job text rest : List ℕ) → opening_of job ≡ Accepts h text rest → IsAccepted h
+opens-accepted h job text rest e = go (header_text [] (parts_of job)) e
+  where
+    go : (r : Result (List ℕ) ℕ) → with_text job r ≡ Accepts h text rest → IsAccepted h
+    go (Err reason) f = absurd cc
+    go (Ok whole) f = stated (header_stated whole) refl f
+      where
+        stated : (s : Result Header HeaderFault) → header_stated whole ≡ s → judged whole (behind whole job) s ≡ Accepts h text rest → IsAccepted h
+        stated (Err fault) was g = absurd cc
+        stated (Ok header) was g = let same : header ≡ h = cc in stated-accepted whole h (was ∙ ap Ok same)

@@ -1,0 +1,11 @@
+pub mod Parts
+pub mod Reopened
+pub mod Texts
+pub mod Read
+pub mod Bytes
+pub mod Ranges
+pub mod Counts
+pub mod Whole
+pub mod Audited
+pub mod Members
+pub mod Accepted

@@ -1,0 +1,45 @@
+//! A law: an audit finds nothing in a report that a replay has finished.
+#![tactic(auto)]
+
+ghost use Rattle.std.specs.Prelude.{◌≡◌, ℕ, Option, Some, List, ◌++◌};
+ghost use Rattle.std.specs.List.{flat_map};
+ghost use Rattle.ddr_io.specs.declared.status.Status.{Status};
+ghost use Rattle.ddr_text.specs.Opening.{Accepts, opening_of};
+ghost use Rattle.ddr_text.specs.Spelling.{spelled};
+ghost use Rattle.ddr_text.specs.declared.lines.TraceLine.{TraceLine};
+ghost use Rattle.log_auditor.specs.Findings.{Answers};
+ghost use Rattle.speed_bin.specs.Header.{IsAccepted};
+ghost use Rattle.speed_bin.specs.declared.header.Header.{Header};
+ghost use Rattle.ddr_text.specs.ReportParts.{Refusal, opening};
+ghost use Rattle.reports.specs.Whole.{IsReportOf};
+ghost use Rattle.audited_reports.specs.Audited.{IsAuditedOk, IsTold, IsWithinLimits, SaysOk};
+
+/// The header that opens a job is accepted: its numbers are within their ranges and the checks hold.
+pub fn opened_header_is_accepted()
+    ensures accepted { (h : Header) (job text rest : List ℕ) → opening_of job ≡ Accepts h text rest → IsAccepted h }
+{}
+
+/// The opening of a job opens the same way whatever bytes it begins: with the same header and text, and these bytes behind it.
+pub fn opening_opens_again()
+    ensures opens { (h : Header) (job text rest more : List ℕ) → opening_of job ≡ Accepts h text rest
+        → opening_of (opening text ++ more) ≡ Accepts h text more }
+{}
+
+/// Every finished report of a job is audited Ok: the bytes that a replay writes of a job whose opening is accepted and
+/// whose trace is within its limits are a well-formed report whose log satisfies the rules, with an X line too.
+pub fn finished_report_is_ok()
+    ensures finding { (h : Header) (job text rest : List ℕ) (trace : List TraceLine) (refusal : Option Refusal) (bytes : List ℕ)
+        → opening_of job ≡ Accepts h text rest → IsWithinLimits h trace → IsTold refusal
+        → IsReportOf spelled h text trace refusal bytes → IsAuditedOk bytes }
+{
+    ddr_text::report_lines();
+    reports::laws::gives_to_a_device();
+    reports::laws::headline();
+    reports::laws::stays_below_the_limit();
+}
+
+/// Of bytes that are audited Ok an audit says `A ok`, unless it is stopped by a fault or want of memory.
+pub fn audit_says_ok()
+    ensures answer { (bytes : List ℕ) (answer : Status) (left before after : Option (List ℕ)) → IsAuditedOk bytes
+        → Answers answer (Some bytes) left before after → SaysOk answer before after }
+{}
