@@ -145,12 +145,12 @@ counts-few h log = record { alert = alerts-few h log; peak = peak-few h log }
 
 -- ---- The end
 
-few-requests : (n : ℕ) (trace : List TraceLine) → length (requests_from n trace) ≤ length trace
-few-requests n [] = omega arith
-few-requests n (Read line ∷ trace) = let k = few-requests (suc n) trace in omega (arith, k)
-few-requests n (Write line bytes ∷ trace) = let k = few-requests (suc n) trace in omega (arith, k)
-few-requests n (Flip line device bit ∷ trace) = let k = few-requests (suc n) trace in omega (arith, k)
-few-requests n (Idle clocks ∷ trace) = let k = few-requests (suc n) trace in omega (arith, k)
+few-asked : (n : ℕ) (trace : List TraceLine) → length (requests_from n trace) ≤ length trace
+few-asked n [] = omega arith
+few-asked n (Read line ∷ trace) = let k = few-asked (suc n) trace in omega (arith, k)
+few-asked n (Write line bytes ∷ trace) = let k = few-asked (suc n) trace in omega (arith, k)
+few-asked n (Flip line device bit ∷ trace) = let k = few-asked (suc n) trace in omega (arith, k)
+few-asked n (Idle clocks ∷ trace) = let k = few-asked (suc n) trace in omega (arith, k)
 
 fast-gaps : (h : Header) → IsAccepted h → n_max h.timing ≤ 10922
 fast-gaps h a = let k = a.checks.closing_within_two in let l = a.timing.nrefi.1 in omega (arith, k, l)
@@ -165,12 +165,12 @@ end-below m n idle clock end gaps few short =
 
 pub end-low : (h : Header) (trace : List TraceLine) (run : Run) (clock : ℕ) → IsAccepted h → length trace ≤ 1048576 → sum (idle_clocks trace) ≤ 4294967296 → IsRun h trace run clock → clock < 2 ^ 40
 end-low h trace run clock a few idle r =
-    end-below (n_max h.timing) (length (requests trace)) (sum (idle_clocks trace)) clock r.short.end (fast-gaps h a) (let k = few-requests 1 trace in omega (arith, k, few)) idle
+    end-below (n_max h.timing) (length (requests trace)) (sum (idle_clocks trace)) clock r.short.end (fast-gaps h a) (let k = few-asked 1 trace in omega (arith, k, few)) idle
 
 pub log-short : (h : Header) (trace : List TraceLine) (run : Run) (clock : ℕ) → IsAccepted h → length trace ≤ 1048576 → sum (idle_clocks trace) ≤ 4294967296 → IsRun h trace run clock → length (log_of run) < 2 ^ 48
 log-short h trace run clock a few idle r =
     let low = end-low h trace run clock a few idle r in
     let made = r.short.commands in
-    let requested = few-requests 1 trace in
+    let requested = few-asked 1 trace in
     let intervals = div-le_self clock h.timing.nrefi in
     omega (arith, low, made, requested, intervals, few)

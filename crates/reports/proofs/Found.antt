@@ -83,12 +83,12 @@ Between-of n (Write line bytes) = (omega arith, omega arith, tt)
 Between-of n (Flip line device bit) = tt
 Between-of n (Idle clocks) = tt
 
-pub Between-requests : (n : ℕ) (trace : List TraceLine) (high : ℕ) → high ≡ n + length trace → Between n high (requests_from n trace)
-Between-requests n [] high e = tt
-Between-requests n (t ∷ trace) high e =
+pub Between-asked : (n : ℕ) (trace : List TraceLine) (high : ℕ) → high ≡ n + length trace → Between n high (requests_from n trace)
+Between-asked n [] high e = tt
+Between-asked n (t ∷ trace) high e =
     Between-append n high (request_of n t) (requests_from (suc n) trace)
     (Between-wider n (suc n) n high (request_of n t) (Between-of n t) (omega arith) (omega (arith, e)))
-    (Between-wider (suc n) high n high (requests_from (suc n) trace) (Between-requests (suc n) trace high (omega (arith, e))) (omega arith) (omega arith))
+    (Between-wider (suc n) high n high (requests_from (suc n) trace) (Between-asked (suc n) trace high (omega (arith, e))) (omega arith) (omega arith))
 
 Between-cond : (low high : ℕ) (b : Bool) (xs ys : List Request) → Between low high xs → Between low high ys → Between low high (cond b xs ys)
 Between-cond low high true xs ys h k = h

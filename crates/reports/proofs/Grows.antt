@@ -10,7 +10,7 @@ use Rattle.reports.specs.Requests.{Request, requests_from, requests, flips_from,
 use Rattle.reports.specs.Runs.{Step, Issues, Flips, Run, is_served, flipped, Serves, IsNext, IsThrough, held}
 use Rattle.reports.specs.Report.{latest, report}
 use Rattle.reports.specs.Sound.{IsSoundStep, Sound}
-use Rattle.reports.proofs.Found.{requests-append, flips-append, Between, Between-requests}
+use Rattle.reports.proofs.Found.{requests-append, flips-append, Between, Between-asked}
 use Rattle.reports.proofs.Order.{IsNext-more}
 use Rattle.reports.proofs.Longer.{flip-within}
 
@@ -83,7 +83,7 @@ step-longer h trace more run (Flips k) sound =
       is_next = ap (λ l. slice_get l (length (flipped run))) (flips-append 1 trace more (1 + length trace) refl) ∙ slice_get-front (flips trace) (flips_from (1 + length trace) more) (length (flipped run)) k sound.is_next;
       none_later = sound.none_later;
       all_earlier = subst (λ l. IsTrue (list_all (λ r. nat_lt k r.number) (held l run))) (sym (requests-longer trace more))
-          (held-both (λ r. nat_lt k r.number) (requests trace) behind run sound.all_earlier (above k (1 + length trace) (1 + length trace + length more) behind low.1 (Between-requests (1 + length trace) more (1 + length trace + length more) refl)));
+          (held-both (λ r. nat_lt k r.number) (requests trace) behind run sound.all_earlier (above k (1 + length trace) (1 + length trace + length more) behind low.1 (Between-asked (1 + length trace) more (1 + length trace + length more) refl)));
     }
 
 -- each step that was right stays so

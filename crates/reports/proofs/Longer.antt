@@ -17,7 +17,7 @@ use Rattle.reports.specs.Memory.{zeros, last_write, memory}
 use Rattle.reports.specs.Report.{answer, answers, issued_line, last_clock, flip_lines, latest, report}
 use Rattle.reports.specs.Sound.{Sound}
 use Rattle.reports.proofs.Ready.{ready-held_behind}
-use Rattle.reports.proofs.Found.{requests-append, Between, Between-requests, Between-inside, Between-has}
+use Rattle.reports.proofs.Found.{requests-append, Between, Between-asked, Between-inside, Between-has}
 
 -- ---- No request behind a number is served
 
@@ -35,7 +35,7 @@ ready-behind_bound n (r ∷ rs) run high b h =
 Between-place : (trace : List TraceLine) (run : Run) (high : ℕ) (o : Option Request) → high ≡ 1 + length trace → IfSome o (λ r. IsNext (requests trace) run r) → Between 1 high (served run) → Between 1 high (also o (served run))
 Between-place trace run high None e n h = h
 Between-place trace run high (Some r) e n h =
-    let k = Between-inside 1 high n.earlier n.later r (requests trace) (Between-requests 1 trace high e) n.is_offered in
+    let k = Between-inside 1 high n.earlier n.later r (requests trace) (Between-asked 1 trace high e) n.is_offered in
     (k.0, k.1, h)
 
 pub Between-served : (h : Header) (trace : List TraceLine) (run : Run) (high : ℕ) → high ≡ 1 + length trace → Sound h trace run → Between 1 high (served run)
@@ -47,7 +47,7 @@ pub none-past : (h : Header) (trace more : List TraceLine) (run : Run) → Sound
 none-past h trace more run sound =
     ready-behind_bound (1 + length trace) (requests_from (1 + length trace) more) run (1 + length trace + length more)
     (Between-served h trace run (1 + length trace) refl sound)
-    (Between-requests (1 + length trace) more (1 + length trace + length more) refl)
+    (Between-asked (1 + length trace) more (1 + length trace + length more) refl)
 
 -- ---- Plain memory
 
@@ -74,7 +74,7 @@ flip-within n (Flip line device bit ∷ trace) (suc i) k e = let h = flip-within
 bytes-longer : (trace more : List TraceLine) (run : Run) (o : Option Request) → IfSome o (λ r. IsNext (requests trace) run r) → bytes_for (trace ++ more) o ≡ bytes_for trace o
 bytes-longer trace more run None n = refl
 bytes-longer trace more run (Some r) n =
-    let k = Between-inside 1 (1 + length trace) n.earlier n.later r (requests trace) (Between-requests 1 trace (1 + length trace) refl) n.is_offered in
+    let k = Between-inside 1 (1 + length trace) n.earlier n.later r (requests trace) (Between-asked 1 trace (1 + length trace) refl) n.is_offered in
     ap bytes_in (slice_get-append trace more (r.number - 1) (omega (arith, k.0, k.1)))
 
 pub device_steps-longer : (h : Header) (trace more : List TraceLine) (run : Run) → Sound h trace run → device_steps h (trace ++ more) run ≡ device_steps h trace run

@@ -10,7 +10,7 @@ use Rattle.reports.specs.Runs.{Issues, Flips, Run, also, served, has, is_served,
 use Rattle.reports.specs.Readings.{before}
 use Rattle.reports.specs.Sound.{Sound}
 use Rattle.reports.proofs.Ready.{or-split, or-left, or-right, has-on, has-reverse, on-own}
-use Rattle.reports.proofs.Found.{IsAt, is_at, Between-requests, Between-has}
+use Rattle.reports.proofs.Found.{IsAt, is_at, Between-asked, Between-has}
 use Rattle.reports.proofs.Memory.{OfTrace, OfTrace-served}
 
 -- two requests of a trace with one number are the same
@@ -51,7 +51,7 @@ next-unserved h trace run r sound n =
     let own : has r.number (on r.line (served run)) ≡ true = has-own trace n.earlier r (served run) f (OfTrace-served h trace run sound) e in
     let among : has r.number (on r.line n.earlier) ≡ true = ap (has r.number) (sym n.in_order) ∙ has-there r.number (on r.line (served run)) own in
     let there : has r.number (requests_from 1 (take f.place trace)) ≡ true = ap (has r.number) (sym f.before) ∙ has-on r.number r.line n.earlier among in
-    let low = Between-has 1 (1 + length (take f.place trace)) r.number (requests_from 1 (take f.place trace)) (Between-requests 1 (take f.place trace) (1 + length (take f.place trace)) refl) there in
+    let low = Between-has 1 (1 + length (take f.place trace)) r.number (requests_from 1 (take f.place trace)) (Between-asked 1 (take f.place trace) (1 + length (take f.place trace)) refl) there in
     omega (arith, low.1, f.number, short f.place trace))
   where
     short : (n : ℕ) (xs : List TraceLine) → length (take n xs) < n + 1

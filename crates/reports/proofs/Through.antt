@@ -11,7 +11,7 @@ use Rattle.reports.specs.Runs.{Served, Issues, Flips, Run, also, has, served, is
 use Rattle.speed_bin.specs.declared.header.Header.{Header}
 use Rattle.reports.specs.Report.{answers, issued_line, latest}
 use Rattle.reports.proofs.Ready.{has-on, has-reverse, has-append_right, or-left, on-append, on-own, ready-of_held, ready-all, held-past, held-unready}
-use Rattle.reports.proofs.Found.{requests-append, flips-append, Between, Between-wider, Between-requests, Between-has}
+use Rattle.reports.proofs.Found.{requests-append, flips-append, Between, Between-wider, Between-asked, Between-has}
 use Rattle.reports.proofs.Order.{Serves-none, Serves-offer, Serves-issue, Serves-in_order, IsNext-more}
 use Rattle.reports.proofs.Longer.{ready-behind_bound}
 
@@ -135,7 +135,7 @@ Between-offered low high offered run s h =
 
 pub through-bound : (trace : List TraceLine) (n : ℕ) (run : Run) → IsThrough trace n run → n ≤ length trace → Between 1 (n + 1) (served run)
 through-bound trace n run h le =
-    Between-offered 1 (n + 1) (requests (take n trace)) run h.serves (Between-requests 1 (take n trace) (n + 1) (omega (arith, length-take n trace, le)))
+    Between-offered 1 (n + 1) (requests (take n trace)) run h.serves (Between-asked 1 (take n trace) (n + 1) (omega (arith, length-take n trace, le)))
 
 -- ---- The lines of a step
 
@@ -164,7 +164,7 @@ rest_of trace number = requests_from (number + 1) (drop number trace)
 Between-rest : (trace : List TraceLine) (number low : ℕ) → low ≤ number + 1 → Between low (number + 1 + length (drop number trace)) (rest_of trace number)
 Between-rest trace number low le =
     let high : ℕ = number + 1 + length (drop number trace) in
-    Between-wider (number + 1) high low high (rest_of trace number) (Between-requests (number + 1) (drop number trace) high refl) le (omega arith)
+    Between-wider (number + 1) high low high (rest_of trace number) (Between-asked (number + 1) (drop number trace) high refl) le (omega arith)
 
 -- the held requests are those from the next line on
 held-through : (trace : List TraceLine) (n number : ℕ) (run : Run) (t : TraceLine) (r : Request) → IsThrough trace n run → slice_get trace n ≡ Some t → number ≡ n + 1 → request_of number t ≡ r ∷ [] → held (requests trace) run ≡ r ∷ rest_of trace number

@@ -18,7 +18,7 @@ use Rattle.reports.specs.Sound.{Sound}
 use Rattle.reports.specs.Window.{AreRequests}
 use Rattle.reports.specs.Underway.{is_waited}
 use Rattle.reports.proofs.Ready.{still, ready-held}
-use Rattle.reports.proofs.Found.{requests-append, Between-requests, Between-inside}
+use Rattle.reports.proofs.Found.{requests-append, Between-asked, Between-inside}
 use Rattle.reports.proofs.Order.{waits, is_split}
 use Rattle.reports.proofs.Offered.{wait, numbered-part, rank-split, served-rank}
 use Rattle.reports.proofs.Served.{next-unserved}
@@ -86,7 +86,7 @@ rank-longer_of trace more o = rank_of (trace ++ more) o ≡ rank_of trace o
 pub rank-longer : (trace more : List TraceLine) (run : Run) (o : Option Request) → IfSome o (λ r. IsNext (requests trace) run r) → rank-longer_of trace more o
 rank-longer trace more run None n = refl
 rank-longer trace more run (Some r) n =
-    let k = Between-inside 1 (1 + length trace) n.earlier n.later r (requests trace) (Between-requests 1 trace (1 + length trace) refl) n.is_offered in
+    let k = Between-inside 1 (1 + length trace) n.earlier n.later r (requests trace) (Between-asked 1 trace (1 + length trace) refl) n.is_offered in
     ap (λ l. Some (length (requests l))) (take-append-le r.number trace more (omega (arith, k.1)))
 
 pub steps-longer : (h : Header) (trace more : List TraceLine) (run : Run) → Sound h trace run → controller_steps (trace ++ more) run ≡ controller_steps trace run
@@ -145,7 +145,7 @@ pub behind-done : (h : Header) (trace : List TraceLine) (n : ℕ) (run : Run) (r
 behind-done h trace n run r sound le done next =
     in-two (requests (take n trace)) (requests_from (1 + n) (drop n trace)) next.earlier next.later r (n < r.number) (sym (two-parts trace n le) ∙ next.is_offered)
     (λ l e. absurd (apart-bools (sym (next-unserved h trace run r sound next) ∙ each-served (requests (take n trace)) next.earlier l r run done e)))
-    (λ l e. let k = Between-inside (1 + n) (1 + n + length (drop n trace)) l next.later r (requests_from (1 + n) (drop n trace)) (Between-requests (1 + n) (drop n trace) (1 + n + length (drop n trace)) refl) e in omega (arith, k.0))
+    (λ l e. let k = Between-inside (1 + n) (1 + n + length (drop n trace)) l next.later r (requests_from (1 + n) (drop n trace)) (Between-asked (1 + n) (drop n trace) (1 + n + length (drop n trace)) refl) e in omega (arith, k.0))
 
 -- ---- I lines
 

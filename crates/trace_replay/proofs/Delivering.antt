@@ -30,7 +30,7 @@ use Rattle.trace_replay.specs.declared.progress.Ahead.{Ahead}
 use Rattle.trace_replay.specs.declared.progress.Ahead.TheVariants.{Unknown, Waits, Passes, End, Refused}
 use Rattle.trace_replay.specs.declared.progress.Progress.{Progress}
 use Rattle.trace_replay.proofs.Agreeing.{places_are}
-use Rattle.trace_replay.proofs.Taken.{few-requests, same-length, total-clocks}
+use Rattle.trace_replay.proofs.Taken.{few-asked, same-length, total-clocks}
 use Rattle.trace_replay.specs.Delivery.{DeliveryLaws}
 use Rattle.trace_replay.proofs.Noting.{bytes-are, has-it, kept-after}
 
@@ -66,7 +66,7 @@ as-many-places (step ∷ log) = ap suc (as-many-places log)
 pub few-commands : DeliveryLaws → (h : Header) (p : Progress) (trace : List TraceLine) (run : Run) (clock : ℕ) (command : Command) (id : Option RequestId) → IsIssuing h p trace run clock command id → length (log_of run) < 2200000000
 few-commands laws h p trace run clock command id k =
     let f = k.follows in
-    let few : length (offered trace) ≤ 1048576 = omega (arith, same-length (requests trace), few-requests 1 trace, f.traced.few) in
+    let few : length (offered trace) ≤ 1048576 = omega (arith, same-length (requests trace), few-asked 1 trace, f.traced.few) in
     let clocks : p.tally.clocks ≤ 4294967296 = omega (arith, f.tally.clocks, f.traced.idle) in
     let idle = total-clocks h p trace run f.now p.ahead clocks f.ahead in
     let most = laws.places_limit h (controller_of p.coupled) (offered trace) (p.tally.clocks + passing p.ahead) (with_pending (pending_of p.coupled) (numbered_steps k.both.steps))

@@ -35,7 +35,7 @@ use Rattle.trace_replay.specs.declared.progress.Progress.{Progress}
 use Rattle.trace_replay.specs.declared.trace_lines.Tally.{Tally}
 use Rattle.trace_replay.proofs.Pieces.{prefix-behind}
 use Rattle.trace_replay.proofs.Under.{Agrees, Few}
-use Rattle.trace_replay.proofs.Taken.{Known, Within, controls, same-length, few-requests, total-clocks}
+use Rattle.trace_replay.proofs.Taken.{Known, Within, controls, same-length, few-asked, total-clocks}
 
 -- ---- What holds of every controller and every run
 
@@ -166,7 +166,7 @@ same-count (step ∷ log) = ap suc (same-count log)
 pub commands-below : Agrees → LogOfRun → PlacesLimit → (h : Header) (p : Progress) (trace : List TraceLine) (run : Run) → Holds h p trace run → p.commands < 2200000000
 commands-below agrees log_is limit h p trace run k =
     let f = k.follows in
-    let few : length (offered trace) ≤ 1048576 = omega (arith, same-length (requests trace), few-requests 1 trace, f.traced.few) in
+    let few : length (offered trace) ≤ 1048576 = omega (arith, same-length (requests trace), few-asked 1 trace, f.traced.few) in
     let clocks : p.tally.clocks ≤ 4294967296 = omega (arith, f.tally.clocks, f.traced.idle) in
     let most : length (controller_steps trace run) < 2200000000
     = limit h (controller_of p.coupled) (offered trace) (p.tally.clocks + passing p.ahead) (controller_steps trace run) (controls agrees h p trace run k) few (total-clocks h p trace run f.now p.ahead clocks f.ahead) in

@@ -82,12 +82,12 @@ kept-longer longer h trace more run earlier (r ∷ rs) sound e =
 
 -- ---- How many are kept
 
-pub few-requests : (n : ℕ) (trace : List TraceLine) → length (requests_from n trace) ≤ length trace
-few-requests n [] = omega arith
-few-requests n (Read line ∷ trace) = let k = few-requests (suc n) trace in omega (arith, k)
-few-requests n (Write line brought ∷ trace) = let k = few-requests (suc n) trace in omega (arith, k)
-few-requests n (Flip line device bit ∷ trace) = let k = few-requests (suc n) trace in omega (arith, k)
-few-requests n (Idle clocks ∷ trace) = let k = few-requests (suc n) trace in omega (arith, k)
+pub few-asked : (n : ℕ) (trace : List TraceLine) → length (requests_from n trace) ≤ length trace
+few-asked n [] = omega arith
+few-asked n (Read line ∷ trace) = let k = few-asked (suc n) trace in omega (arith, k)
+few-asked n (Write line brought ∷ trace) = let k = few-asked (suc n) trace in omega (arith, k)
+few-asked n (Flip line device bit ∷ trace) = let k = few-asked (suc n) trace in omega (arith, k)
+few-asked n (Idle clocks ∷ trace) = let k = few-asked (suc n) trace in omega (arith, k)
 
 pub same-length : (rs : List Request) → length (map asked rs) ≡ length rs
 same-length [] = refl
@@ -150,7 +150,7 @@ next-few parts h p trace run f =
     let total : length (ready (requests trace) run) + length (held (requests trace) run) ≡ length (requests trace) = sym (length-append (ready (requests trace) run) (held (requests trace) run)) ∙ ap length (parts (requests trace) run) in
     let first : p.held.first ≡ length (ready (requests trace) run) + 1 = ap (λ (k : Kept). k.first) f.kept in
     let items : length p.held.items ≡ length (held (requests trace) run) = ap (λ (k : Kept). length k.items) f.kept ∙ kept-length h trace run (held (requests trace) run) in
-    omega (arith, total, first, items, few-requests 1 trace, f.traced.few)
+    omega (arith, total, first, items, few-asked 1 trace, f.traced.few)
 
 pub kept-count : (h : Header) (p : Progress) (trace : List TraceLine) (run : Run) → Follows h p trace run → length p.held.items ≡ length (held (requests trace) run)
 kept-count h p trace run f = ap (λ (k : Kept). length k.items) f.kept ∙ kept-length h trace run (held (requests trace) run)
@@ -363,6 +363,6 @@ NowLimit = (h : Header) (c : Controller) (offers : List Asked) (idle : ℕ) (log
 pub now-below : Agrees → NowLimit → (h : Header) (p : Progress) (trace : List TraceLine) (run : Run) → Holds h p trace run → from_of p.coupled < 2 ^ 40
 now-below agrees limit h p trace run k =
     let f = k.follows in
-    let few : length (offered trace) ≤ 1048576 = omega (arith, same-length (requests trace), few-requests 1 trace, f.traced.few) in
+    let few : length (offered trace) ≤ 1048576 = omega (arith, same-length (requests trace), few-asked 1 trace, f.traced.few) in
     let clocks : p.tally.clocks ≤ 4294967296 = omega (arith, f.tally.clocks, f.traced.idle) in
     limit h (controller_of p.coupled) (offered trace) (p.tally.clocks + passing p.ahead) (controller_steps trace run) (controls agrees h p trace run k) few (total-clocks h p trace run f.now p.ahead clocks f.ahead)
