@@ -2,6 +2,7 @@
 use crate::{Fault, at_end, fault_of, run};
 use ddr_io::{PlainSink, PlainSource, Source, Status};
 use std::alloc::Global;
+use std::process::Abort;
 use std::test::Fail;
 
 // The words of a command line.
@@ -58,26 +59,37 @@ fn count_of(ending: &PlainSink, name: &str) -> Result<u64, Fail> {
     Ok(0)
 }
 
+// A made job is replayed, and its report is audited: `gen run` ends as the report does, and all requests are served.
+fn is_served_whole(rt: &impl Abort, alloc: Global, requests: &str, count: u64) -> Result<(), Fail> {
+    let (made, job) = run_with(alloc, &["gen", "1", requests], b"")?;
+    let (replayed, report) = run_with(alloc, &["replay"], job.bytes())?;
+    let (audited, verdict) = run_with(alloc, &["audit"], report.bytes())?;
+    let (run, ending) = run_with(alloc, &["gen", "run", "1", requests], b"")?;
+    assert_eq!(rt;
+        (made, replayed, audited, run),
+        (Status::Ok, Status::Ok, Status::Ok, Status::Ok)
+    );
+    assert_eq!(rt; verdict.bytes(), b"A ok\n".as_slice());
+    assert!(rt; ending.bytes().starts_with(b"S act "));
+    assert!(rt; report.bytes().ends_with(ending.bytes()));
+    let reads = count_of(&ending, "S rd ")?;
+    let writes = count_of(&ending, "S wr ")?;
+    assert_eq!(rt; reads.checked_add(writes), Some(count));
+    Ok(())
+}
+
 #[test]
 fn a_made_job_is_replayed_and_audited(rt: HostRuntime) -> Result<(), Fail> {
-    let alloc = rt.alloc();
     for (requests, count) in [("0", 0), ("1", 1), ("100", 100), ("300", 300)] {
-        let (made, job) = run_with(alloc, &["gen", "1", requests], b"")?;
-        let (replayed, report) = run_with(alloc, &["replay"], job.bytes())?;
-        let (audited, verdict) = run_with(alloc, &["audit"], report.bytes())?;
-        let (run, ending) = run_with(alloc, &["gen", "run", "1", requests], b"")?;
-        assert_eq!(rt;
-            (made, replayed, audited, run),
-            (Status::Ok, Status::Ok, Status::Ok, Status::Ok)
-        );
-        assert_eq!(rt; verdict.bytes(), b"A ok\n".as_slice());
-        assert!(rt; ending.bytes().starts_with(b"S act "));
-        assert!(rt; report.bytes().ends_with(ending.bytes()));
-        let reads = count_of(&ending, "S rd ")?;
-        let writes = count_of(&ending, "S wr ")?;
-        assert_eq!(rt; reads.checked_add(writes), Some(count));
+        is_served_whole(&rt, rt.alloc(), requests, count)?;
     }
     Ok(())
+}
+
+// `rt try --test` takes minutes for this one; the gate builds it and takes seconds.
+#[test]
+fn a_large_made_job_is_replayed_and_audited(rt: HostRuntime) -> Result<(), Fail> {
+    is_served_whole(&rt, rt.alloc(), "100000", 100_000)
 }
 
 #[test]
