@@ -6,7 +6,10 @@ use Rattle.std.proofs.lemmas.Bool.{and_parts, leb-true}
 use Rattle.std.proofs.lemmas.Bool.Decides.{nat_tests}
 use Rattle.toml.specs.Data.{Members}
 use Rattle.toml.specs.Parse.{parse_document}
-use Rattle.ddr_text.specs.Opening.{Accepts, behind, header_text, judged, opening_of, parts_of, with_text}
+use Rattle.ddr_text.specs.Opening.{Accepts, Heading, behind, heading_in, judged, opening_of, opening_text, parts_of, with_heading}
+use Rattle.ddr_text.proofs.Reopened.{own-separator}
+use Rattle.ddr_text.proofs.Separators.{ends_in_range}
+use Rattle.speed_bin.specs.Version.{Figures, IsVersion}
 use Rattle.speed_bin.specs.Document.{checks_of, failed, header_in, header_of, header_stated, round_within_half, settings_in, text_at, thresholds_fit, timing_in, window_fits, with_bin}
 use Rattle.speed_bin.specs.Header.{Checks, IsAccepted}
 use Rattle.speed_bin.specs.Keys.{all_members, has_required, key_fits, kind_fits, range_fits}
@@ -131,47 +134,51 @@ checked-accepted : (made h : Header) (check : Option ℕ) → first_failing 1 (c
 checked-accepted made h None is e = (cc, is)
 checked-accepted made h (Some check) is e = absurd cc
 
-with-bin-accepted : (top : Members) (bin : Option Timing) (h : Header) → ((t : Timing) → bin ≡ Some t → IsTiming t) → has_required top ≡ true → all_members range_fits top ≡ true → with_bin top bin ≡ Ok h → IsAccepted h
-with-bin-accepted top None h named required ranges e = absurd cc
-with-bin-accepted top (Some bin) h named required ranges e =
-    let made : Header = record { timing = timing_in bin top; settings = settings_in top } in
+with-bin-accepted : (version : Figures) (top : Members) (bin : Option Timing) (h : Header) → ((t : Timing) → bin ≡ Some t → IsTiming t) → has_required top ≡ true → all_members range_fits top ≡ true → IsVersion version → with_bin version top bin ≡ Ok h → IsAccepted h
+with-bin-accepted version top None h named required ranges own e = absurd cc
+with-bin-accepted version top (Some bin) h named required ranges own e =
+    let made : Header = record { timing = timing_in bin top; settings = settings_in top; version = version } in
     let both = checked-accepted made h (first_failing 1 (checks_of made)) refl e in
     subst IsAccepted both.0 (record {
       timing = timing-fits bin top (named bin refl) ranges;
       settings = settings-fit top required ranges;
+      version = own;
       checks = checks-pass made both.1;
     })
 
-members-accepted : (top : Members) (h : Header) → header_in top ≡ Ok h → IsAccepted h
-members-accepted top h e =
+members-accepted : (version : Figures) (top : Members) (h : Header) → IsVersion version → header_in version top ≡ Ok h → IsAccepted h
+members-accepted version top h own e =
     go (all_members key_fits top && has_required top) (all_members kind_fits top) (all_members range_fits top) refl refl e
   where
     go : (keys kinds ranges : Bool) → (all_members key_fits top && has_required top) ≡ keys → all_members range_fits top ≡ ranges
-        → ◌≡◌ {A = Result Header HeaderFault} (if not keys then Err Key else (if not kinds then Err Kind else (if not ranges then Err Range else with_bin top (option_and_then bin_named (text_at (codes "bin") top))))) (Ok h) → IsAccepted h
+        → ◌≡◌ {A = Result Header HeaderFault} (if not keys then Err Key else (if not kinds then Err Kind else (if not ranges then Err Range else with_bin version top (option_and_then bin_named (text_at (codes "bin") top))))) (Ok h) → IsAccepted h
     go false kinds ranges a b f = absurd cc
     go true false ranges a b f = absurd cc
     go true true false a b f = absurd cc
-    go true true true a b f = with-bin-accepted top (option_and_then bin_named (text_at (codes "bin") top)) h (named-fits (text_at (codes "bin") top)) (and_parts (all_members key_fits top) (has_required top) a).1 b f
+    go true true true a b f = with-bin-accepted version top (option_and_then bin_named (text_at (codes "bin") top)) h (named-fits (text_at (codes "bin") top)) (and_parts (all_members key_fits top) (has_required top) a).1 b own f
 
-document-accepted : (top : Option Members) (h : Header) → header_of top ≡ Ok h → IsAccepted h
-document-accepted None h e = absurd cc
-document-accepted (Some top) h e = members-accepted top h e
+document-accepted : (version : Figures) (top : Option Members) (h : Header) → IsVersion version → header_of version top ≡ Ok h → IsAccepted h
+document-accepted version None h own e = absurd cc
+document-accepted version (Some top) h own e = members-accepted version top h own e
 
-stated-accepted : (text : List ℕ) (h : Header) → header_stated text ≡ Ok h → IsAccepted h
-stated-accepted text h e = go (is_utf8 text) e
+stated-accepted : (version : Figures) (text : List ℕ) (h : Header) → IsVersion version → header_stated version text ≡ Ok h → IsAccepted h
+stated-accepted version text h own e = go (is_utf8 text) e
   where
-    go : (utf8 : Bool) → (if utf8 then header_of (parse_document text) else Err NotToml) ≡ Ok h → IsAccepted h
-    go true f = document-accepted (parse_document text) h f
+    go : (utf8 : Bool) → (if utf8 then header_of version (parse_document text) else Err NotToml) ≡ Ok h → IsAccepted h
+    go true f = document-accepted version (parse_document text) h own f
     go false f = absurd cc
 
 -- A header that opens a job is accepted.
 pub opens-accepted : (h : Header) (job text rest : List ℕ) → opening_of job ≡ Accepts h text rest → IsAccepted h
-opens-accepted h job text rest e = go (header_text [] (parts_of job)) e
+opens-accepted h job text rest e = go (heading_in [] (parts_of job)) refl e
   where
-    go : (r : Result (List ℕ) ℕ) → with_text job r ≡ Accepts h text rest → IsAccepted h
-    go (Err reason) f = absurd cc
-    go (Ok whole) f = stated (header_stated whole) refl f
+    go : (r : Result Heading ℕ) → heading_in [] (parts_of job) ≡ r → with_heading job r ≡ Accepts h text rest → IsAccepted h
+    go (Err reason) is f = absurd cc
+    go (Ok heading) is f = stated (header_stated heading.version heading.text) refl f
       where
-        stated : (s : Result Header HeaderFault) → header_stated whole ≡ s → judged whole (behind whole job) s ≡ Accepts h text rest → IsAccepted h
+        stated : (s : Result Header HeaderFault) → header_stated heading.version heading.text ≡ s → judged (opening_text heading) (behind (opening_text heading) job) s ≡ Accepts h text rest → IsAccepted h
         stated (Err fault) was g = absurd cc
-        stated (Ok header) was g = let same : header ≡ h = cc in stated-accepted whole h (was ∙ ap Ok same)
+        stated (Ok header) was g =
+            let same : header ≡ h = cc in
+            let own = ends_in_range heading.separator heading.version (own-separator job heading is).role in
+            stated-accepted heading.version heading.text h own (was ∙ ap Ok same)

@@ -1,10 +1,10 @@
 -- What an audit finds in a finished report.
-use Rattle.std.proofs.Common.{◌≡◌, ℕ, ◌^◌, ◌<◌, ◌≤◌, Option, Some, None, List, [], ◌∷◌, ◌++◌, reverse, length, sum, refl, sym, ap, ◌∙◌, subst, arith, append_assoc, append-nil}
+use Rattle.std.proofs.Common.{◌*◌, inl, inr, ◌≡◌, ℕ, ◌^◌, ◌<◌, ◌≤◌, Option, Some, None, List, [], ◌∷◌, ◌++◌, reverse, length, sum, refl, sym, ap, ◌∙◌, subst, arith, append_assoc, append-nil}
 use Rattle.std.specs.List.{flat_map}
 use Rattle.std.specs.Io.KnownBytes.{Appends}
 use Rattle.ddr_io.specs.declared.status.Status.{Status}
 use Rattle.ddr_io.specs.declared.status.Status.TheVariants as status
-use Rattle.command_words.specs.Geometry.{lines_of}
+use Rattle.command_words.specs.Geometry.{IsGroups, lines_of}
 use Rattle.ddr_text.specs.AcceptedReport.{ReportLines}
 use Rattle.ddr_text.specs.Opening.{Accepts, opening_of, parts_of}
 use Rattle.ddr_text.specs.ReportParts.{Refusal, opening, places_of, refusal_lines}
@@ -33,7 +33,7 @@ use Rattle.reports.specs.Whole.{IsReportOf, whole}
 use Rattle.audited_reports.specs.Audited.{IsAuditedOk, IsTold, IsWithinLimits, SaysOk}
 use Rattle.audited_reports.proofs.Ranges.{AreBody, report-body}
 use Rattle.audited_reports.proofs.Read.{reads-back}
-use Rattle.audited_reports.proofs.Reopened.{reopens}
+use Rattle.ddr_text.proofs.Reopened.{reopens}
 use Rattle.audited_reports.proofs.Whole.{whole-stands}
 
 -- ---- The log and the end of a report
@@ -101,7 +101,11 @@ pub record Laws : Type 0 where
   pub few : (h : Header) (trace : List TraceLine) (run : Run) (clock : ℕ) (refusal : Option Refusal) → IsAccepted h → IsRun h trace run clock → length trace ≤ 1048576 → sum (idle_clocks trace) ≤ 4294967296 → length (whole h trace run clock refusal) < 4294967295
 
 small-shape : (h : Header) → IsAccepted h → lines_of (shape_of h) ≤ 2 ^ 64
-small-shape h accepted = let k = accepted.settings.rows.1 in omega (arith, k)
+small-shape h accepted = go h.version.groups accepted.version.2
+  where
+    go : (groups : ℕ) → IsGroups groups → h.settings.rows * 256 * groups ≤ 2 ^ 64
+    go groups (inl e) = let k = accepted.settings.rows.1 in rw e (omega (arith, k))
+    go groups (inr e) = let k = accepted.settings.rows.1 in rw e (omega (arith, k))
 
 read-lines : Laws → (h : Header) (trace : List TraceLine) (run : Run) (clock : ℕ) (refusal : Option Refusal) → IsAccepted h → IsWithinLimits h trace → IsTold refusal → IsRun h trace run clock
     → lines_in (shape_of h) Body 1 (parts_of (flat_map spelled (whole h trace run clock refusal))) ≡ record { lines = whole h trace run clock refusal; refusal = None }

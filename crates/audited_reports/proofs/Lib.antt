@@ -1,5 +1,4 @@
 pub mod Parts
-pub mod Reopened
 pub mod Texts
 pub mod Read
 pub mod Bytes

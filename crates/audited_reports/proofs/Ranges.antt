@@ -1,9 +1,10 @@
 -- The C, D and F lines of a sound run are within their ranges.
-use Rattle.std.proofs.Common.{◌≡◌, ℕ, zero, suc, ◌+◌, ◌-◌, ◌^◌, ◌<◌, ◌≤◌, Bool, true, false, cond, Option, Some, None, List, [], ◌∷◌, ◌++◌, map, length, slice_get, refl, subst, arith}
+use Rattle.std.proofs.Common.{nat_lt, inl, inr, ◌≡◌, ℕ, zero, suc, ◌+◌, ◌-◌, ◌^◌, ◌<◌, ◌≤◌, Bool, true, false, cond, Option, Some, None, List, [], ◌∷◌, ◌++◌, map, length, slice_get, refl, subst, arith}
 use Rattle.std.specs.Prelude.{⊤}
 use Rattle.std.proofs.lemmas.Bool.{lt-ltb}
 use Rattle.command_words.specs.Command.{IsInRange}
-use Rattle.command_words.specs.Geometry.{Shape, lines_of}
+use Rattle.command_words.specs.Geometry.{Shape, IsGroups, lines_of}
+use Rattle.speed_bin.proofs.Tests.{joined}
 use Rattle.command_words.specs.declared.command.Command.{Command}
 use Rattle.command_words.specs.declared.command.Command.TheVariants.{Act, Rd, Wr, PrePb, PreSb, PreAb, RefAb, RefSb, RfmAb, RfmSb, Mrw, Ecs, Nop}
 use Rattle.ddr_text.specs.AcceptedReport.{IsReportLine}
@@ -74,11 +75,16 @@ answers-body g h trace run (r ∷ rs) f =
 
 -- ---- C lines
 
+-- a header has at most 8 bank groups
+few-groups : (g k : ℕ) → IsGroups k → g < k → g < 8
+few-groups g k (inl e) low = omega (arith, e, low)
+few-groups g k (inr e) low = omega (arith, e, low)
+
 in-range : (h : Header) (command : Command) → IsAccepted h → IsWithin (shape_of h) command → IsInRange command
-in-range h (Act bank row) a w = (record { group = w.0.group; address = w.0.address }, omega (arith, w.1, a.settings.rows.1))
-in-range h (Rd bank column) a w = (record { group = w.0.group; address = w.0.address }, w.1)
-in-range h (Wr bank column) a w = (record { group = w.0.group; address = w.0.address }, w.1)
-in-range h (PrePb bank) a w = record { group = w.group; address = w.address }
+in-range h (Act bank row) a w = (record { group = few-groups bank.group h.version.groups a.version.2 w.0.group; address = w.0.address }, omega (arith, w.1, a.settings.rows.1))
+in-range h (Rd bank column) a w = (record { group = few-groups bank.group h.version.groups a.version.2 w.0.group; address = w.0.address }, w.1)
+in-range h (Wr bank column) a w = (record { group = few-groups bank.group h.version.groups a.version.2 w.0.group; address = w.0.address }, w.1)
+in-range h (PrePb bank) a w = record { group = few-groups bank.group h.version.groups a.version.2 w.group; address = w.address }
 in-range h (PreSb address) a w = w
 in-range h PreAb a w = tt
 in-range h RefAb a w = tt
@@ -90,10 +96,10 @@ in-range h Ecs a w = tt
 in-range h Nop a w = tt
 
 row-within : (g : Shape) (command : Command) → IsWithin g command → has_row g command ≡ true
-row-within g (Act bank row) w = lt-ltb row g.rows w.1
-row-within g (Rd bank column) w = refl
-row-within g (Wr bank column) w = refl
-row-within g (PrePb bank) w = refl
+row-within g (Act bank row) w = joined (nat_lt row g.rows) (nat_lt bank.group g.groups) (lt-ltb row g.rows w.1) (lt-ltb bank.group g.groups w.0.group)
+row-within g (Rd bank column) w = lt-ltb bank.group g.groups w.0.group
+row-within g (Wr bank column) w = lt-ltb bank.group g.groups w.0.group
+row-within g (PrePb bank) w = lt-ltb bank.group g.groups w.group
 row-within g (PreSb address) w = refl
 row-within g PreAb w = refl
 row-within g RefAb w = refl

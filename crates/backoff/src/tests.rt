@@ -4,7 +4,7 @@ use std::test::Fail;
 
 #[test]
 fn laws_return() {
-    laws::four_activations();
+    laws::cycle_activations();
     laws::weights_at_marks();
     laws::bound();
     Alert::stays();

@@ -1,12 +1,12 @@
 //! The lines of a subchannel, and the places where they lie.
 ghost use Rattle.std.specs.Prelude.{◌≡◌, ◌<◌, ◌≤◌, ◌*◌, ◌↔◌, IsSome, IfSome};
-ghost use Rattle.command_words.specs.Geometry.{lines_of};
+ghost use Rattle.command_words.specs.Geometry.{IsGroups, lines_of};
 ghost use Rattle.command_words.specs.Place.{line_of, place_of, IsInside};
 
 use crate::{Bank, BankAddr, Column, Group, Row};
 use std::marker::Model;
 
-/// How many rows a bank has (1 to 65,536), and how many bank groups there are (8).
+/// How many rows a bank has (1 to 65,536), and how many bank groups there are (4 or 8).
 #[derive(Clone, Copy, Debug, PartialEq, Eq)]
 pub struct Geometry {
     rows: u32,
@@ -15,28 +15,37 @@ pub struct Geometry {
 
 impl Model for Geometry {
     ghost use Rattle.std.specs.Prelude.{◌≡◌, ◌≤◌};
-    ghost use Rattle.command_words.specs.Geometry.{Shape};
+    ghost use Rattle.command_words.specs.Geometry.{Shape, IsGroups};
 
     ghost Value = { Shape };
 
     ghost view = { λ g. record { rows = g.rows; groups = g.groups } };
 
-    ghost invariant = { λ g. (1 ≤ g.rows) × (g.rows ≤ 65536) × (g.groups ≡ 8) };
+    ghost invariant = { λ g. (1 ≤ g.rows) × (g.rows ≤ 65536) × IsGroups g.groups };
 
     ghost inverse = { λ s. record { rows = s.rows; groups = s.groups } };
 }
 
 impl Geometry {
-    /// `None` exactly where the rows are not 1 to 65,536 or the groups are not 8.
+    /// `None` exactly where the rows are not 1 to 65,536 or the groups are neither 4 nor 8.
     pub fn new(rows: u32, groups: u8) -> Option<Self>
-        ensures in_range { IsSome result ↔ ((1 ≤ rows) × (rows ≤ 65536) × (groups ≡ 8)) }
+        ensures in_range { IsSome result ↔ ((1 ≤ rows) × (rows ≤ 65536) × IsGroups groups) }
         ensures value { IfSome result (λ g. g ≡ record { rows = rows; groups = groups }) }
     {
-        if 1 <= rows && rows <= 65536 && groups == 8 {
+        if 1 <= rows && rows <= 65536 && (groups == 4 || groups == 8) {
             Some(Geometry { rows, groups })
         } else {
             None
         }
+    }
+
+    /// That of so many rows and groups.
+    pub fn with(rows: u32, groups: u8) -> Self
+        requires rows { (1 ≤ rows) × (rows ≤ 65536) }
+        requires groups { IsGroups groups }
+        ensures { result ≡ record { rows = rows; groups = groups } }
+    {
+        Geometry { rows, groups }
     }
 
     /// That of so many rows and 8 groups.
@@ -58,14 +67,15 @@ impl Geometry {
     /// The bank groups.
     pub fn groups(self) -> u8
         ensures groups { result ≡ self.groups }
-        ensures in_range { result ≡ 8 }
+        ensures in_range { IsGroups result }
     {
         self.groups
     }
 
     /// The lines of the subchannel: 64 columns of each row of each bank.
     pub fn lines(self) -> u32
-        ensures { result ≡ lines_of self }
+        ensures lines { result ≡ lines_of self }
+        ensures in_range { result ≤ 134217728 }
     {
         self.rows() * 256 * u32::from(self.groups())
     }

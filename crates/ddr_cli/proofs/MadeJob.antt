@@ -7,7 +7,10 @@ use Rattle.std.proofs.Transfers.{drop-appended}
 use Rattle.std.proofs.lemmas.List.Elements.{All-head, All-tail, All-weaker}
 use Rattle.std.proofs.lemmas.List.Splits.{slice_split_at, slice_split-cons_yes, slice_split-cons_no}
 use Rattle.ddr_io.specs.Line.{HasNoFeed}
-use Rattle.ddr_text.specs.Opening.{Accepts, is_feed, is_long, parts_of, header_text as text_before, judged, behind, with_text, opening_of}
+use Rattle.ddr_text.specs.Grammar.{fields_of}
+use Rattle.ddr_text.specs.Opening.{Accepts, Heading, is_feed, is_long, parts_of, heading_in, judged, behind, with_heading, opening_of}
+use Rattle.ddr_text.specs.Separator.{role_of_line}
+use Rattle.speed_bin.specs.Version.{plain}
 use Rattle.ddr_text.specs.declared.lines.TraceLine.{TraceLine}
 use Rattle.ddr_text.specs.declared.lines.TraceLine.TheVariants.{Read, Write, Flip, Idle}
 use Rattle.speed_bin.specs.Document.{header_stated}
@@ -107,33 +110,31 @@ opening_parts : (rest : List ℕ) → parts_of (opening ++ rest) ≡ header_line
 unfolding parts_of opening header_text header_lines
 opening_parts rest = refl
 
-text_read : (first : List ℕ) (more : List (List ℕ)) → text_before [] (header_lines ++ codes "---" ∷ first ∷ more) ≡ Ok header_text
-unfolding header_text header_lines
+made_heading : Heading
+made_heading = record { text = header_text; separator = codes "---"; version = plain }
+
+text_read : (first : List ℕ) (more : List (List ℕ)) → heading_in [] (header_lines ++ codes "---" ∷ first ∷ more) ≡ Ok made_heading
+unfolding header_text header_lines role_of_line fields_of made_heading
 text_read first more = refl
 
-rest_left : (rest : List ℕ) → drop (length header_text + 4) (opening ++ rest) ≡ rest
-unfolding opening
-rest_left rest =
-    ap (λ n. drop n ((header_text ++ with_feed (codes "---")) ++ rest)) (sym (length-append header_text (with_feed (codes "---"))))
-    ∙ drop-appended (header_text ++ with_feed (codes "---")) ((header_text ++ with_feed (codes "---")) ++ rest) rest refl
-
-opens : header_stated header_text ≡ Ok made_header → (rest : List ℕ) → opening_of (opening ++ rest) ≡ Accepts made_header header_text rest
+opens : header_stated plain header_text ≡ Ok made_header → (rest : List ℕ) → opening_of (opening ++ rest) ≡ Accepts made_header opening rest
+unfolding opening made_heading
 opens stated rest =
     let part = some_part rest in
-    ap (λ parts. with_text (opening ++ rest) (text_before [] parts)) (opening_parts rest ∙ ap (λ parts. header_lines ++ codes "---" ∷ parts) part.2)
-    ∙ ap (with_text (opening ++ rest)) (text_read part.0 part.1)
-    ∙ ap (judged header_text (behind header_text (opening ++ rest))) stated
-    ∙ ap (Accepts made_header header_text) (rest_left rest)
+    ap (λ parts. with_heading (opening ++ rest) (heading_in [] parts)) (opening_parts rest ∙ ap (λ parts. header_lines ++ codes "---" ∷ parts) part.2)
+    ∙ ap (with_heading (opening ++ rest)) (text_read part.0 part.1)
+    ∙ ap (judged opening (behind opening (opening ++ rest))) stated
+    ∙ ap (Accepts made_header opening) (drop-appended opening (opening ++ rest) rest refl)
 
 -- ---- The job
 
 -- what the laws on made jobs say
 pub record Laws : Type 0 where
-  pub stated : header_stated header_text ≡ Ok made_header
+  pub stated : header_stated plain header_text ≡ Ok made_header
   pub reads : (seed requests : ℕ) → All IsReadBack (made_trace seed requests)
   pub count : (seed requests : ℕ) → length (made_trace seed requests) ≡ requests
 
-pub made_is_job : Laws → (seed requests : ℕ) → requests ≤ 1048576 → IsJobOf (Some (made seed requests)) made_header header_text (made_trace seed requests) None
+pub made_is_job : Laws → (seed requests : ℕ) → requests ≤ 1048576 → IsJobOf (Some (made seed requests)) made_header opening (made_trace seed requests) None
 unfolding made made_header
 made_is_job laws seed requests few =
     let lines = made_trace seed requests in

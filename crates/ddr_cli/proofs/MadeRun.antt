@@ -7,7 +7,7 @@ use Rattle.ddr_text.specs.Spelling.{spelled}
 use Rattle.ddr_text.specs.declared.lines.ReportLine.TheVariants.{End as EndLine}
 use Rattle.ddr_text.specs.declared.lines.TraceLine.{TraceLine}
 use Rattle.speed_bin.specs.declared.header.Header.{Header}
-use Rattle.made_jobs.specs.Made.{header_text, made, made_trace}
+use Rattle.made_jobs.specs.Made.{opening, made, made_trace}
 use Rattle.made_jobs.specs.Replayed.{made_header}
 use Rattle.made_jobs.specs.Writing.{Writes}
 use Rattle.reports.specs.Stats.{stats}
@@ -24,7 +24,7 @@ use Rattle.ddr_cli.proofs.MadeJob.{Laws, made_is_job}
 pub not_refused : Laws → (seed requests : ℕ) → requests ≤ 1048576 → (bytes : List ℕ) → bytes ≡ made seed requests
     → ((h : Header) (text : List ℕ) (trace : List TraceLine) → IsJobOf (Some bytes) h text trace None → IsUnrefused RefusedOpening) → ⊥
 not_refused laws seed requests few bytes same complete =
-    complete made_header header_text (made_trace seed requests) (subst (λ (b : List ℕ). IsJobOf (Some b) made_header header_text (made_trace seed requests) None) (sym same) (made_is_job laws seed requests few))
+    complete made_header opening (made_trace seed requests) (subst (λ (b : List ℕ). IsJobOf (Some b) made_header opening (made_trace seed requests) None) (sym same) (made_is_job laws seed requests few))
 
 none_some : (refused : Option ℕ) → false ≡ is_some refused → refused ≡ None
 none_some None e = refl
@@ -36,8 +36,8 @@ pub is_made_end : Laws → (seed requests : ℕ) → requests ≤ 1048576 → (b
     → ((h : Header) (text : List ℕ) (trace : List TraceLine) → IsJobOf (Some bytes) h text trace None → IsUnrefused (Finished ending))
     → IsMadeEnd seed requests (flat_map spelled (end_lines ending))
 is_made_end laws seed requests few bytes ending left before after same (h, text, trace, refused, job, within, served) complete =
-    let own = subst (λ (b : List ℕ). IsJobOf (Some b) made_header header_text (made_trace seed requests) None) (sym same) (made_is_job laws seed requests few) in
-    let all : ending.refusal ≡ None = complete made_header header_text (made_trace seed requests) own in
+    let own = subst (λ (b : List ℕ). IsJobOf (Some b) made_header opening (made_trace seed requests) None) (sym same) (made_is_job laws seed requests few) in
+    let all : ending.refusal ≡ None = complete made_header opening (made_trace seed requests) own in
     let none : refused ≡ None = none_some refused (sym (ap is_some all) ∙ served.shown) in
     record {
       header = h;

@@ -1,5 +1,5 @@
 -- The checks of a header have the numbers 1 to 8.
-use Rattle.std.proofs.Common.{◌≡◌, ℕ, suc, ◌+◌, ◌<◌, ◌≤◌, ◌⊎◌, inl, inr, Bool, true, false, if◌then◌else◌, List, [], ◌∷◌, length, not, ◌&&◌, refl, sym, ◌∙◌, subst, arith, Option, Some, None, Result, Ok, Err}
+use Rattle.std.proofs.Common.{IfOk, ◌≡◌, ℕ, suc, ◌+◌, ◌<◌, ◌≤◌, ◌⊎◌, inl, inr, Bool, true, false, if◌then◌else◌, List, [], ◌∷◌, length, not, ◌&&◌, refl, sym, ◌∙◌, subst, arith, Option, Some, None, Result, Ok, Err}
 use Rattle.std.specs.Str.{is_utf8}
 use Rattle.std.specs.Prelude.{codes, option_and_then}
 use Rattle.speed_bin.specs.Document.{checks_of, failed, checked, with_bin, header_of, header_stated, timing_in, settings_in, text_at}
@@ -8,9 +8,13 @@ use Rattle.speed_bin.specs.Rules.{first_failing}
 use Rattle.speed_bin.specs.Timing.{bin_named}
 use Rattle.speed_bin.specs.declared.fault.HeaderFault.{HeaderFault}
 use Rattle.speed_bin.specs.declared.fault.HeaderFault.TheVariants.{NotToml, Key, Kind, Range, NoBin, Check, OutOfMemory}
+use Rattle.speed_bin.specs.Version.{Figures}
+use Rattle.speed_bin.specs.Header.{IsAccepted}
+use Rattle.ddr_text.specs.declared.opening.Opening.{Opening}
+use Rattle.ddr_text.specs.declared.opening.Opening.TheVariants.{Accepted}
 use Rattle.speed_bin.specs.declared.header.Header.{Header}
 use Rattle.speed_bin.specs.declared.timing.Timing.{Timing}
-use Rattle.ddr_text.specs.Opening.{IsReason}
+use Rattle.ddr_text.specs.Opening.{IsReason, IsAnswer, States}
 
 abbrev IsCheck : ℕ → Type 0
 IsCheck check = (1 ≤ check) × (check ≤ 8)
@@ -39,29 +43,38 @@ of_checked : (h : Header) → FailsCheck (checked h)
 unfolding checks_of
 of_checked h = if_failed h (first_failing 1 (checks_of h)) (λ number is. let found = failing 1 (checks_of h) number is in (found.0, omega (arith, found.1)))
 
-of_bin : (top : _) (bin : Option Timing) → FailsCheck (with_bin top bin)
-of_bin top None = tt
-of_bin top (Some bin) = of_checked (record { timing = timing_in bin top; settings = settings_in top })
+of_bin : (version : Figures) (top : _) (bin : Option Timing) → FailsCheck (with_bin version top bin)
+of_bin version top None = tt
+of_bin version top (Some bin) = of_checked (record { timing = timing_in bin top; settings = settings_in top; version = version })
 
 either : (test : Bool) (x y : Result Header HeaderFault) → FailsCheck x → FailsCheck y → FailsCheck (if test then x else y)
 either true x y first second = first
 either false x y first second = second
 
-of_members : (top : _) → FailsCheck (header_of top)
-of_members None = tt
-of_members (Some top) =
+of_members : (version : Figures) (top : _) → FailsCheck (header_of version top)
+of_members version None = tt
+of_members version (Some top) =
     either (not (all_members key_fits top && has_required top)) _ _ tt (either (not (all_members kind_fits top)) _ _ tt
-    (either (not (all_members range_fits top)) _ _ tt (of_bin top (option_and_then bin_named (text_at (codes "bin") top)))))
+    (either (not (all_members range_fits top)) _ _ tt (of_bin version top (option_and_then bin_named (text_at (codes "bin") top)))))
 
-of_text : (text : List ℕ) → FailsCheck (header_stated text)
-of_text text = either (is_utf8 text) _ _ (of_members _) tt
+of_text : (version : Figures) (text : List ℕ) → FailsCheck (header_stated version text)
+of_text version text = either (is_utf8 text) _ _ (of_members version _) tt
 
 -- the reason of a check is one of the reasons
-pub reason_of_check : (text : List ℕ) (check : ℕ) → header_stated text ≡ Err (Check check) → (20 + check ≤ 28) × IsReason (20 + check)
-reason_of_check text check is =
-    let is_check : IsCheck check = subst FailsCheck is (of_text text) in
+pub reason_of_check : (version : Figures) (text : List ℕ) (check : ℕ) → header_stated version text ≡ Err (Check check) → (20 + check ≤ 28) × IsReason (20 + check)
+reason_of_check version text check is =
+    let is_check : IsCheck check = subst FailsCheck is (of_text version text) in
     (omega (arith, is_check.1), inr (omega (arith, is_check.0), omega (arith, is_check.1)))
 
-pub stated : (text : List ℕ) (check : ℕ) (r : Result Header HeaderFault) → r ≡ Err (Check check) → (r ≡ Err OutOfMemory) ⊎ (r ≡ header_stated text) → header_stated text ≡ Err (Check check)
-stated text check r found (inl is) = absurd (let no : ⊥ = cc in no)
-stated text check r found (inr is) = sym is ∙ found
+-- a header that was read is the one that the text states
+pub stated_ok : (version : Figures) (text : List ℕ) (h : Header) (r : Result Header HeaderFault) → r ≡ Ok h → (r ≡ Err OutOfMemory) ⊎ (r ≡ header_stated version text) → header_stated version text ≡ Ok h
+stated_ok version text h r found (inl is) = absurd (let no : ⊥ = cc in no)
+stated_ok version text h r found (inr is) = sym is ∙ found
+
+pub answered : {E : Type 0} (r : Result Opening E) (h : Header) (text : List ℕ) → IfOk r (λ opening. opening ≡ Accepted h text) → IsAccepted h → States text h → IfOk r IsAnswer
+answered (Ok opening) h text is accepted states = subst IsAnswer (sym is) (accepted, states)
+answered (Err e) h text is accepted states = tt
+
+pub stated : (version : Figures) (text : List ℕ) (check : ℕ) (r : Result Header HeaderFault) → r ≡ Err (Check check) → (r ≡ Err OutOfMemory) ⊎ (r ≡ header_stated version text) → header_stated version text ≡ Err (Check check)
+stated version text check r found (inl is) = absurd (let no : ⊥ = cc in no)
+stated version text check r found (inr is) = sym is ∙ found

@@ -10,4 +10,7 @@ pub mod TraceLaws
 mod WordLaws
 mod Values
 mod OpeningLines
+pub mod CleanParts
+pub mod Reopened
+pub mod Separators
 mod CheckNumbers

@@ -11,7 +11,9 @@ use Rattle.ddr_io.specs.Line.{HasNoFeed, IsNextLine}
 use Rattle.ddr_io.specs.declared.line_reader.Line.TheVariants.{Text, End, TooLong, Unended}
 use Rattle.ddr_text.specs.declared.opening.Front.TheVariants as front
 use Rattle.ddr_text.specs.Front.{IsFront}
-use Rattle.ddr_text.specs.Opening.{is_feed, parts_of, with_feed, is_long, is_separator, is_large, header_text}
+use Rattle.ddr_text.specs.Opening.{Heading, is_feed, parts_of, with_feed, is_long, is_large, after_line, heading_in}
+use Rattle.ddr_text.specs.Separator.{Role, Ends, Faulty, Text as TextLine, role_of_line}
+use Rattle.speed_bin.specs.Version.{Figures}
 
 -- ---- Parts
 
@@ -49,7 +51,7 @@ line_part line rest clean =
 abbrev pub Continues : Option (List ℕ) → List ℕ → Option (List ℕ) → Type 0
 Continues None text left = Unit {0}
 Continues (Some bytes) text None = ⊥
-Continues (Some bytes) text (Some left) = header_text [] (parts_of bytes) ≡ header_text text (parts_of left)
+Continues (Some bytes) text (Some left) = heading_in [] (parts_of bytes) ≡ heading_in text (parts_of left)
 
 pub continues-start : (bytes : Option (List ℕ)) → Continues bytes [] bytes
 continues-start None = tt
@@ -63,8 +65,7 @@ long line many = lt-ltb 511 (length line) (omega (arith, many))
 
 -- behind a line stands another part
 two_parts : (text line rest : List ℕ) → HasNoFeed line → length line < 512
-    → header_text text (parts_of (with_feed line ++ rest))
-    ≡ (if is_separator line then Ok text else if is_large (text ++ with_feed line) then Err 17 else header_text (text ++ with_feed line) (parts_of rest))
+    → heading_in text (parts_of (with_feed line ++ rest)) ≡ after_line text line (role_of_line line) (heading_in (text ++ with_feed line) (parts_of rest))
 unfolding parts_of
 two_parts text line rest clean few =
     let next = first_part rest in
@@ -72,70 +73,82 @@ two_parts text line rest clean few =
     rw (split, next.2, short line few) refl
 
 -- one line more was read
-line_read : (bytes left rest text line : List ℕ) → header_text [] (parts_of bytes) ≡ header_text text (parts_of left) → HasNoFeed line → length line < 512
-    → left ≡ with_feed line ++ rest → header_text [] (parts_of bytes)
-    ≡ (if is_separator line then Ok text else if is_large (text ++ with_feed line) then Err 17 else header_text (text ++ with_feed line) (parts_of rest))
+line_read : (bytes left rest text line : List ℕ) → heading_in [] (parts_of bytes) ≡ heading_in text (parts_of left) → HasNoFeed line → length line < 512
+    → left ≡ with_feed line ++ rest → heading_in [] (parts_of bytes) ≡ after_line text line (role_of_line line) (heading_in (text ++ with_feed line) (parts_of rest))
 line_read bytes left rest text line continues clean few is =
-    continues ∙ ap (λ l. header_text text (parts_of l)) is ∙ two_parts text line rest clean few
+    continues ∙ ap (λ l. heading_in text (parts_of l)) is ∙ two_parts text line rest clean few
 
 -- the next line is the separator
-pub found_separator : (old now new : Option (List ℕ)) (text line : List ℕ) → Consumes old now text → Continues old text now → IsNextLine now new line Text
-    → is_separator line ≡ true → IsFront old new (front.Text text)
-found_separator None now new text line taken continues next is = tt
-found_separator (Some bytes) None new text line taken continues next is = absurd taken
-found_separator (Some bytes) (Some left) None text line taken continues next is = absurd next.2
-found_separator (Some bytes) (Some left) (Some rest) text line taken continues next is =
-    let same : line ≡ codes "---" = (bytes_eq-Decides line (codes "---")).0 is in
-    let whole : bytes ≡ (text ++ with_feed line) ++ rest = taken ∙ ap (λ l. text ++ l) next.2 ∙ sym (append_assoc text (with_feed line) rest) in
-    let four : length (text ++ with_feed line) ≡ length text + 4 = length-append text (with_feed line) ∙ ap (λ l. length text + length (with_feed l)) same in (
-      line_read bytes left rest text line continues next.1 next.0 next.2 ∙ ap (λ b. if b then Ok text else if is_large (text ++ with_feed line) then Err 17 else header_text (text ++ with_feed line) (parts_of rest)) is,
-      ap Some (sym (ap (drop (length text + 4)) whole ∙ drop_at (text ++ with_feed line) rest (length text + 4) four)),
+pub found_separator : (old now new : Option (List ℕ)) (text line separator : List ℕ) (version : Figures) → separator ≡ with_feed line → Consumes old now text → Continues old text now → IsNextLine now new line Text
+    → role_of_line line ≡ Ends version → IsFront old new (front.Text text separator version)
+found_separator None now new text line separator version whole taken continues next is = tt
+found_separator (Some bytes) None new text line separator version whole taken continues next is = absurd taken
+found_separator (Some bytes) (Some left) None text line separator version whole taken continues next is = absurd next.2
+found_separator (Some bytes) (Some left) (Some rest) text line separator version whole taken continues next is =
+    let all : bytes ≡ (text ++ with_feed line) ++ rest = taken ∙ ap (λ l. text ++ l) next.2 ∙ sym (append_assoc text (with_feed line) rest) in (
+      line,
+      whole,
+      line_read bytes left rest text line continues next.1 next.0 next.2 ∙ ap (λ k. after_line text line k (heading_in (text ++ with_feed line) (parts_of rest))) is,
+      subst (λ s. Some rest ≡ Some (drop (length (text ++ s)) bytes)) (sym whole)
+      (ap Some (sym (ap (drop (length (text ++ with_feed line))) all ∙ drop_at (text ++ with_feed line) rest (length (text ++ with_feed line)) refl))),
     )
 
-otherwise : {A : Type 0} (first second : Bool) (x y z : A) → first ≡ false → (if first then x else if second then y else z) ≡ (if second then y else z)
-otherwise first second x y z is = rw is refl
+-- the next line begins as a separator and is none
+pub faulty : (old now new : Option (List ℕ)) (text line : List ℕ) (reason : ℕ) → Continues old text now → IsNextLine now new line Text
+    → role_of_line line ≡ Faulty → reason ≡ (if is_large (text ++ with_feed line) then 17 else 29) → IsFront old new (front.Refused reason)
+faulty None now new text line reason continues next is why = tt
+faulty (Some bytes) None new text line reason continues next is why = absurd continues
+faulty (Some bytes) (Some left) None text line reason continues next is why = absurd next.2
+faulty (Some bytes) (Some left) (Some rest) text line reason continues next is why =
+    line_read bytes left rest text line continues next.1 next.0 next.2
+    ∙ ap (λ k. after_line text line k (heading_in (text ++ with_feed line) (parts_of rest))) is
+    ∙ told (is_large (text ++ with_feed line)) ∙ ap Err (sym why)
+  where
+    told : (large : Bool) → ◌≡◌ {A = Result Heading ℕ} (if large then Err 17 else Err 29) (Err (if large then 17 else 29))
+    told true = refl
+    told false = refl
 
 -- the next line is one too many
 pub too_much : (old now new : Option (List ℕ)) (text line : List ℕ) → Continues old text now → IsNextLine now new line Text
-    → is_separator line ≡ false → is_large (text ++ with_feed line) ≡ true → IsFront old new (front.Refused 17)
-too_much None now new text line continues next other large = tt
-too_much (Some bytes) None new text line continues next other large = absurd continues
-too_much (Some bytes) (Some left) None text line continues next other large = absurd next.2
-too_much (Some bytes) (Some left) (Some rest) text line continues next other large =
+    → role_of_line line ≡ TextLine → is_large (text ++ with_feed line) ≡ true → IsFront old new (front.Refused 17)
+too_much None now new text line continues next is large = tt
+too_much (Some bytes) None new text line continues next is large = absurd continues
+too_much (Some bytes) (Some left) None text line continues next is large = absurd next.2
+too_much (Some bytes) (Some left) (Some rest) text line continues next is large =
     line_read bytes left rest text line continues next.1 next.0 next.2
-    ∙ otherwise (is_separator line) (is_large (text ++ with_feed line)) (Ok text) (Err 17) (header_text (text ++ with_feed line) (parts_of rest)) other
-    ∙ ap (λ b. if b then Err 17 else header_text (text ++ with_feed line) (parts_of rest)) large
+    ∙ ap (λ k. after_line text line k (heading_in (text ++ with_feed line) (parts_of rest))) is
+    ∙ ap (λ b. if b then Err 17 else heading_in (text ++ with_feed line) (parts_of rest)) large
 
 -- the next line is one of the header
 pub continues-line : (old now new : Option (List ℕ)) (text line longer : List ℕ) → longer ≡ text ++ with_feed line → Continues old text now → IsNextLine now new line Text
-    → is_separator line ≡ false → is_large (text ++ with_feed line) ≡ false → Continues old longer new
-continues-line None now new text line longer more continues next other large = tt
-continues-line (Some bytes) None new text line longer more continues next other large = absurd continues
-continues-line (Some bytes) (Some left) None text line longer more continues next other large = absurd next.2
-continues-line (Some bytes) (Some left) (Some rest) text line longer more continues next other large =
+    → role_of_line line ≡ TextLine → is_large (text ++ with_feed line) ≡ false → Continues old longer new
+continues-line None now new text line longer more continues next is large = tt
+continues-line (Some bytes) None new text line longer more continues next is large = absurd continues
+continues-line (Some bytes) (Some left) None text line longer more continues next is large = absurd next.2
+continues-line (Some bytes) (Some left) (Some rest) text line longer more continues next is large =
     line_read bytes left rest text line continues next.1 next.0 next.2
-    ∙ otherwise (is_separator line) (is_large (text ++ with_feed line)) (Ok text) (Err 17) (header_text (text ++ with_feed line) (parts_of rest)) other
-    ∙ ap (λ b. if b then Err 17 else header_text (text ++ with_feed line) (parts_of rest)) large
-    ∙ ap (λ t. header_text t (parts_of rest)) (sym more)
+    ∙ ap (λ k. after_line text line k (heading_in (text ++ with_feed line) (parts_of rest))) is
+    ∙ ap (λ b. if b then Err 17 else heading_in (text ++ with_feed line) (parts_of rest)) large
+    ∙ ap (λ t. heading_in t (parts_of rest)) (sym more)
 
 -- ---- No line more
 
-last_long : (text part : List ℕ) (rest : List (List ℕ)) → is_long part ≡ true → header_text text (part ∷ rest) ≡ Err 17
+last_long : (text part : List ℕ) (rest : List (List ℕ)) → is_long part ≡ true → heading_in text (part ∷ rest) ≡ Err 17
 last_long text part [] is = rw is refl
 last_long text part (next ∷ rest) is = rw is refl
 
-long_left : (text left : List ℕ) → 512 ≤ length left → HasNoFeed (take 512 left) → header_text text (parts_of left) ≡ Err 17
+long_left : (text left : List ℕ) → 512 ≤ length left → HasNoFeed (take 512 left) → heading_in text (parts_of left) ≡ Err 17
 unfolding parts_of
 long_left text left many clean =
     let found = long_part (take 512 left) (drop 512 left) clean in
     let whole = ap (slice_split is_feed) (sym (take-append-drop 512 left)) ∙ found.2 in
     let front : length (take 512 left) ≡ 512 = length-take-le 512 left many in
-    ap (header_text text) whole ∙ last_long text (take 512 left ++ found.0) found.1 (long (take 512 left ++ found.0) (omega (arith, front, length-append (take 512 left) found.0)))
+    ap (heading_in text) whole ∙ last_long text (take 512 left ++ found.0) found.1 (long (take 512 left ++ found.0) (omega (arith, front, length-append (take 512 left) found.0)))
 
-short_left : (text left : List ℕ) → length left < 512 → HasNoFeed left → header_text text (parts_of left) ≡ Err 16
+short_left : (text left : List ℕ) → length left < 512 → HasNoFeed left → heading_in text (parts_of left) ≡ Err 16
 unfolding parts_of
 short_left text left few clean =
-    ap (header_text text) (slice_split_none is_feed left (no_feeds left clean)) ∙ ap (λ b. if b then Err 17 else Err 16) (short left few)
+    ap (heading_in text) (slice_split_none is_feed left (no_feeds left clean)) ∙ ap (λ b. if b then Err 17 else Err 16) (short left few)
 
 -- the next 512 bytes are no line
 pub too_long : (old now new later : Option (List ℕ)) (text line : List ℕ) → Continues old text now → IsNextLine now new line TooLong → IsFront old later (front.Refused 17)
@@ -154,7 +167,7 @@ pub at_end : (old now new later : Option (List ℕ)) (text line : List ℕ) → 
 at_end None now new later text line continues next = tt
 at_end (Some bytes) None new later text line continues next = absurd continues
 at_end (Some bytes) (Some left) new later text line continues next =
-    continues ∙ ap (λ l. header_text text (parts_of l)) next.0 ∙ short_left text [] (lit< tt) (All-nil (λ b. b ≢ 10))
+    continues ∙ ap (λ l. heading_in text (parts_of l)) next.0 ∙ short_left text [] (lit< tt) (All-nil (λ b. b ≢ 10))
 
 pub within : (text : List ℕ) → is_large text ≡ false → length text ≤ 65536
 within text small = ltb-false 65536 (length text) small
@@ -165,8 +178,8 @@ pub taken-line : {T E : Type 0} (old now new : Option (List ℕ)) (text line : L
 taken-line old now new text line (Ok x) taken next = tt
 taken-line old now new text line (Err e) taken next = (text ++ with_feed line, Consumes-trans old now new text (with_feed line) taken next.2)
 
-pub taken-front : {T E : Type 0} (old new : Option (List ℕ)) (text : List ℕ) (r : Result T E) → IsFront old new (front.Text text) → OnErr r ((bytes : List ℕ) × Consumes old new bytes)
-taken-front old new text (Ok x) found = tt
-taken-front None new text (Err e) found = ([], tt)
-taken-front (Some bytes) new text (Err e) found =
-    (take (length text + 4) bytes, subst (λ n. Consumes (Some bytes) n (take (length text + 4) bytes)) (sym found.1) (sym (take-append-drop (length text + 4) bytes)))
+pub taken-front : {T E : Type 0} (old new : Option (List ℕ)) (text separator : List ℕ) (version : Figures) (r : Result T E) → IsFront old new (front.Text text separator version) → OnErr r ((bytes : List ℕ) × Consumes old new bytes)
+taken-front old new text separator version (Ok x) found = tt
+taken-front None new text separator version (Err e) found = ([], tt)
+taken-front (Some bytes) new text separator version (Err e) found =
+    (take (length (text ++ separator)) bytes, subst (λ n. Consumes (Some bytes) n (take (length (text ++ separator)) bytes)) (sym found.3) (sym (take-append-drop (length (text ++ separator)) bytes)))

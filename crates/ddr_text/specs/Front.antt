@@ -1,10 +1,12 @@
 -- What the steps of opening a job answer, by the next bytes before and after them.
-use Rattle.std.specs.Prelude.{ℕ, ◌≡◌, ⊤, List, [], Some, None, Ok, Err}
+use Rattle.std.specs.Prelude.{ℕ, ◌≡◌, ◌++◌, ⊤, List, [], Some, None, Ok, Err}
 use Rattle.std.specs.declared.option.Option.{Option}
 use Rattle.ddr_io.specs.declared.line_reader.Line.{Line}
 use Rattle.ddr_io.specs.declared.line_reader.Line.TheVariants.{Text as TextLine}
 use Rattle.speed_bin.specs.Document.{header_stated}
-use Rattle.ddr_text.specs.Opening.{IsReason, Accepts, Refuses, judged, header_text, parts_of, behind}
+use Rattle.speed_bin.specs.Version.{Figures}
+use Rattle.ddr_text.specs.Opening.{IsReason, Accepts, Refuses, judged, heading_in, parts_of, behind, with_feed}
+use Rattle.ddr_text.specs.Separator.{Ends, role_of_line}
 use Rattle.ddr_text.specs.declared.opening.Front.{Front}
 use Rattle.ddr_text.specs.declared.opening.Front.TheVariants.{Text, Refused as RefusedFront, Failed as FailedFront}
 use Rattle.ddr_text.specs.declared.opening.Opening.{Opening}
@@ -17,24 +19,27 @@ GoesOn last (Refused reason) = ⊤
 GoesOn last Failed = ⊤
 
 abbrev pub FrontGoesOn : Line → Front → Type 0
-FrontGoesOn last (Text text) = last ≡ TextLine
+FrontGoesOn last (Text text separator version) = last ≡ TextLine
 FrontGoesOn last (RefusedFront reason) = ⊤
 FrontGoesOn last FailedFront = ⊤
 
+-- a separator of this version, or a reason
 abbrev pub HasReason : Front → Type 0
-HasReason (Text text) = ⊤
+HasReason (Text text separator version) = (line : List ℕ) × (separator ≡ with_feed line) × (role_of_line line ≡ Ends version)
 HasReason (RefusedFront reason) = IsReason reason
 HasReason FailedFront = ⊤
 
--- the text of a header, or the reason that there is none
+-- the heading of a job, or the reason that there is none
 abbrev pub IsFront : Option (List ℕ) → Option (List ℕ) → Front → Type 0
 IsFront None new front = ⊤
-IsFront (Some bytes) new (Text text) = (header_text [] (parts_of bytes) ≡ Ok text) × (new ≡ Some (behind text bytes))
-IsFront (Some bytes) new (RefusedFront reason) = header_text [] (parts_of bytes) ≡ Err reason
+IsFront (Some bytes) new (Text text separator version) =
+    (line : List ℕ) × (separator ≡ with_feed line) × (heading_in [] (parts_of bytes) ≡ Ok (record { text = text; separator = line; version = version }))
+    × (new ≡ Some (behind (text ++ separator) bytes))
+IsFront (Some bytes) new (RefusedFront reason) = heading_in [] (parts_of bytes) ≡ Err reason
 IsFront (Some bytes) new FailedFront = ⊤
 
--- the header that a text states, or the reason of its first fault
-abbrev pub IsJudged : List ℕ → Opening → Type 0
-IsJudged text (Accepted header same) = (same ≡ text) × (judged text [] (header_stated text) ≡ Accepts header text [])
-IsJudged text (Refused reason) = judged text [] (header_stated text) ≡ Refuses reason
-IsJudged text Failed = ⊥
+-- the header that a text states in front of a separator with this version, or the reason of its first fault
+abbrev pub IsJudged : List ℕ → List ℕ → Figures → Opening → Type 0
+IsJudged text separator version (Accepted header same) = (same ≡ text ++ separator) × (header_stated version text ≡ Ok header)
+IsJudged text separator version (Refused reason) = judged text [] (header_stated version text) ≡ Refuses reason
+IsJudged text separator version Failed = ⊥

@@ -6,5 +6,7 @@ pub mod ReportGrammar
 pub mod Spelling
 pub mod ReportParts
 pub mod Ranges
+pub mod Separator
+pub mod Seen
 pub mod Opening
 pub mod Front

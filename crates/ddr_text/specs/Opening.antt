@@ -1,7 +1,6 @@
--- How a job begins: its header, and the line `---` behind it. `docs/FORMATS.md` has the same in words.
+-- How a job begins: its header, and the separator behind it. `docs/FORMATS.md` has the same in words.
 use Rattle.std.specs.Prelude.{ℕ, ◌≡◌, ◌≤◌, ◌+◌, ◌⊎◌, ◌++◌, ◌==◌, ⊤, nat_lt, Bool, if◌then◌else◌, List, [], ◌∷◌, codes, drop, length, Some, None, Result, Ok, Err}
 use Rattle.std.specs.List.{slice_split}
-use Rattle.std.specs.Str.{bytes_eq}
 use Rattle.std.specs.declared.option.Option.{Option}
 use Rattle.ddr_io.specs.Line.{line_feed}
 use Rattle.speed_bin.specs.Document.{header_stated}
@@ -9,6 +8,8 @@ use Rattle.speed_bin.specs.Header.{IsAccepted}
 use Rattle.speed_bin.specs.declared.fault.HeaderFault.{HeaderFault}
 use Rattle.speed_bin.specs.declared.fault.HeaderFault.TheVariants.{NotToml, Key, Kind, Range, NoBin, Check, OutOfMemory}
 use Rattle.speed_bin.specs.declared.header.Header.{Header}
+use Rattle.speed_bin.specs.Version.{Figures}
+use Rattle.ddr_text.specs.Separator.{Role, Ends, Faulty, Text, role_of_line}
 use Rattle.ddr_text.specs.declared.opening.Opening.{Opening}
 use Rattle.ddr_text.specs.declared.opening.Opening.TheVariants.{Accepted, Refused, Failed}
 
@@ -26,24 +27,33 @@ with_feed line = line ++ line_feed ∷ []
 abbrev pub is_long : List ℕ → Bool
 is_long part = nat_lt 511 (length part)
 
--- the line that ends a header
-abbrev pub is_separator : List ℕ → Bool
-is_separator line = bytes_eq line (codes "---")
-
 -- a header has at most so many bytes, with its line feeds
 abbrev pub is_large : List ℕ → Bool
 is_large text = nat_lt 65536 (length text)
 
--- The text of a header, of which this much stands before these parts: the lines before the first `---`. Or the reason
--- that there is none: the end comes first (16), or a long line or too many bytes (17).
-abbrev pub header_text : List ℕ → List (List ℕ) → Result (List ℕ) ℕ
-header_text text [] = Err 16
-header_text text (last ∷ []) = if is_long last then Err 17 else Err 16
-header_text text (line ∷ next ∷ parts) =
-    if is_long line then Err 17
-    else if is_separator line then Ok text
-    else if is_large (text ++ with_feed line) then Err 17
-    else header_text (text ++ with_feed line) (next ∷ parts)
+-- the text of a header, its separator, and the version that this states
+pub record Heading : Type 0 where
+  pub text : List ℕ
+  pub separator : List ℕ
+  pub version : Figures
+
+-- the header text and the separator, each line with its line feed
+abbrev pub opening_text : Heading → List ℕ
+opening_text heading = heading.text ++ with_feed heading.separator
+
+-- behind this much of a header text: a line of this kind, and what the parts behind it give
+abbrev pub after_line : List ℕ → List ℕ → Role → Result Heading ℕ → Result Heading ℕ
+after_line text line (Ends version) rest = Ok (record { text = text; separator = line; version = version })
+after_line text line Faulty rest = if is_large (text ++ with_feed line) then Err 17 else Err 29
+after_line text line Text rest = if is_large (text ++ with_feed line) then Err 17 else rest
+
+-- The heading of a job, of whose header text this much stands before these parts. Or the reason that there is none: the
+-- end comes first (16), a long line or too many bytes (17), or a line that begins as a separator and is none (29).
+abbrev pub heading_in : List ℕ → List (List ℕ) → Result Heading ℕ
+heading_in text [] = Err 16
+heading_in text (last ∷ []) = if is_long last then Err 17 else Err 16
+heading_in text (line ∷ next ∷ parts) =
+    if is_long line then Err 17 else after_line text line (role_of_line line) (heading_in (text ++ with_feed line) (next ∷ parts))
 
 -- the reason of a header's fault; want of memory is the fault of no text
 abbrev pub reason_of : HeaderFault → ℕ
@@ -55,7 +65,8 @@ reason_of NoBin = 15
 reason_of (Check check) = 20 + check
 reason_of OutOfMemory = 0
 
--- How bytes open a job: with this header, its text, and the bytes behind the line `---`; or with this reason to refuse it.
+-- How bytes open a job: with this header, its text with the separator, and the bytes behind them; or with this reason to
+-- refuse it.
 pub data Opens : Type 0 where
   Accepts : Header → List ℕ → List ℕ → Opens
   Refuses : ℕ → Opens
@@ -64,25 +75,31 @@ abbrev pub judged : List ℕ → List ℕ → Result Header HeaderFault → Open
 judged text rest (Ok header) = Accepts header text rest
 judged text rest (Err fault) = Refuses (reason_of fault)
 
--- the bytes behind a header text and the line `---`
+-- the bytes behind a header text with its separator
 abbrev pub behind : List ℕ → List ℕ → List ℕ
-behind text bytes = drop (length text + 4) bytes
+behind text bytes = drop (length text) bytes
 
-abbrev pub with_text : List ℕ → Result (List ℕ) ℕ → Opens
-with_text bytes (Ok text) = judged text (behind text bytes) (header_stated text)
-with_text bytes (Err reason) = Refuses reason
+abbrev pub with_heading : List ℕ → Result Heading ℕ → Opens
+with_heading bytes (Ok heading) = judged (opening_text heading) (behind (opening_text heading) bytes) (header_stated heading.version heading.text)
+with_heading bytes (Err reason) = Refuses reason
 
 -- how these bytes open a job
 abbrev pub opening_of : List ℕ → Opens
-opening_of bytes = with_text bytes (header_text [] (parts_of bytes))
+opening_of bytes = with_heading bytes (heading_in [] (parts_of bytes))
+
+-- the text is that of a heading, and the header is the one that this states
+abbrev pub States : List ℕ → Header → Type 0
+States text header =
+    (heading : Heading) × (opening_text heading ≡ text) × (role_of_line heading.separator ≡ Ends heading.version)
+    × (header_stated heading.version heading.text ≡ Ok header)
 
 -- ---- Answers
 
 -- the reasons of an opening
 abbrev pub IsReason : ℕ → Type 0
-IsReason reason = ((11 ≤ reason) × (reason ≤ 17)) ⊎ ((21 ≤ reason) × (reason ≤ 28))
+IsReason reason = ((11 ≤ reason) × (reason ≤ 17)) ⊎ ((21 ≤ reason) × (reason ≤ 29))
 
--- An answer, by the next bytes before and after it. A header that is accepted leaves the bytes behind its line `---`.
+-- An answer, by the next bytes before and after it. A header that is accepted leaves the bytes behind its separator.
 abbrev pub IsOpening : Option (List ℕ) → Option (List ℕ) → Opening → Type 0
 IsOpening None new opening = ⊤
 IsOpening (Some bytes) new (Accepted header text) = (rest : List ℕ) × (opening_of bytes ≡ Accepts header text rest) × (new ≡ Some rest)
@@ -91,6 +108,6 @@ IsOpening (Some bytes) new Failed = ⊤
 
 -- what is known of an answer also where the bytes are not
 abbrev pub IsAnswer : Opening → Type 0
-IsAnswer (Accepted header text) = IsAccepted header × (header_stated text ≡ Ok header)
+IsAnswer (Accepted header text) = IsAccepted header × States text header
 IsAnswer (Refused reason) = IsReason reason
 IsAnswer Failed = ⊤

@@ -60,12 +60,12 @@ or_word (Err fault) = Err (Word fault)
 unfoldable pub command_of : Words → Result Command LineFault
 command_of words = or_word (decode_of words)
 
--- an activation's row is one of the geometry's
+-- the group of a bank that a command names is one of the geometry's, and so is an activation's row
 abbrev pub has_row : Shape → Command → Bool
-has_row g (ActCommand bank row) = nat_lt row g.rows
-has_row g (RdCommand bank column) = true
-has_row g (WrCommand bank column) = true
-has_row g (PrePbCommand bank) = true
+has_row g (ActCommand bank row) = nat_lt row g.rows && nat_lt bank.group g.groups
+has_row g (RdCommand bank column) = nat_lt bank.group g.groups
+has_row g (WrCommand bank column) = nat_lt bank.group g.groups
+has_row g (PrePbCommand bank) = nat_lt bank.group g.groups
 has_row g (PreSbCommand address) = true
 has_row g PreAbCommand = true
 has_row g RefAbCommand = true

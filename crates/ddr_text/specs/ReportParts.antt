@@ -4,9 +4,9 @@ use Rattle.speed_bin.specs.Log.{Issued}
 use Rattle.ddr_text.specs.declared.lines.ReportLine.{ReportLine}
 use Rattle.ddr_text.specs.declared.lines.ReportLine.TheVariants.{Issued as IssuedLine, Value, Flip, Stat, End, Refused}
 
--- the header text, and the line `---`
+-- the header text and the separator, as they stand in the job
 abbrev pub opening : List ℕ → List ℕ
-opening header = header ++ codes "---\n"
+opening text = text
 
 -- where a line was refused, its number and the reason
 pub record Refusal : Type 0 where

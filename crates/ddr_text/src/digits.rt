@@ -1,7 +1,7 @@
 //! The words, states and names of a report line's fields.
 ghost use Rattle.std.specs.Prelude.{◌≡◌, option_copied};
 ghost use Rattle.std.specs.List.{list_all};
-ghost use Rattle.ddr_text.specs.ReportGrammar.{is_lower_digit, lower_bytes_of, word_of, words_in, state_of, stat_of, command_of, in_rows};
+ghost use Rattle.ddr_text.specs.ReportGrammar.{is_lower_digit, lower_bytes_of, word_of, words_in, state_of, stat_of, command_of, has_row, in_rows};
 
 use crate::{LineFault, StatName};
 use command_words::{Command, Geometry, Words, decode};
@@ -69,19 +69,35 @@ pub(crate) fn command_of(words: Words) -> Result<Command, LineFault>
     decode(words).map_err(|fault| LineFault::Word(fault))
 }
 
-/// The command, where its row is one of the geometry's.
+/// The command, where its row and its bank group are the geometry's.
 pub(crate) fn in_rows(command: Command, g: Geometry) -> Result<Command, LineFault>
     ensures { result ≡ in_rows g command }
 {
+    if has_row(&command, g) {
+        Ok(command)
+    } else {
+        Err(LineFault::Range)
+    }
+}
+
+// Whether the bank group that the command names, and an activation's row, are the geometry's.
+fn has_row(command: &Command, g: Geometry) -> bool
+    ensures { result ≡ has_row g command.now }
+{
     match command {
-        Command::Act(_, row) => {
-            if row.get() < g.rows() {
-                Ok(command)
-            } else {
-                Err(LineFault::Range)
-            }
-        }
-        _ => Ok(command),
+        Command::Act(bank, row) => row.get() < g.rows() && bank.group.get() < g.groups(),
+        Command::Rd(bank, _) => bank.group.get() < g.groups(),
+        Command::Wr(bank, _) => bank.group.get() < g.groups(),
+        Command::PrePb(bank) => bank.group.get() < g.groups(),
+        Command::PreSb(_) => true,
+        Command::PreAb => true,
+        Command::RefAb => true,
+        Command::RefSb(_) => true,
+        Command::RfmAb => true,
+        Command::RfmSb(_) => true,
+        Command::Mrw(_) => true,
+        Command::Ecs => true,
+        Command::Nop => true,
     }
 }
 

@@ -6,8 +6,8 @@ use ddr_io::OutOfMemory;
 use std::alloc::Global;
 use std::marker::Model;
 
-/// The text of a header as it was read: its lines, each with its line feed, without the line `---`. Contracts see the
-/// list of its bytes.
+/// The text of a header as it was read, and its separator: its lines, each with its line feed. Contracts see the list of
+/// its bytes.
 #[derive(Drop)]
 pub struct HeaderText {
     bytes: Vec<u8>,
@@ -36,6 +36,16 @@ impl HeaderText {
         ensures { result.now ≡ self.now }
     {
         &self.bytes
+    }
+
+    // Appends bytes.
+    pub(crate) fn push(&mut self, bytes: &[u8]) -> Result<(), OutOfMemory>
+        ensures { OnOk result (self.new ≡ self.old ++ bytes.now) }
+    {
+        if self.bytes.extend_from_slice(bytes).is_err() {
+            return Err(OutOfMemory);
+        }
+        Ok(())
     }
 
     // Appends a line and its line feed.

@@ -6,6 +6,7 @@ mod fields;
 mod header_text;
 mod lines;
 mod opening;
+mod separator;
 #[cfg(test)]
 mod opening_tests;
 mod report_line;

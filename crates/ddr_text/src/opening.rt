@@ -1,15 +1,19 @@
-//! Opening a job: reading its header, up to and with the line `---`.
-ghost use Rattle.std.specs.Prelude.{ℕ, ◌≡◌, ◌+◌, ◌<◌, ◌≤◌, ◌++◌, List, length, IfOk, OnErr, Ok, Err};
+//! Opening a job: reading its header, up to and with the separator.
+ghost use Rattle.std.specs.Prelude.{ℕ, ◌≡◌, ◌+◌, ◌<◌, ◌≤◌, if◌then◌else◌, ◌++◌, List, length, IfOk, OnErr, Ok, Err};
 ghost use Rattle.std.specs.Io.KnownBytes.{Consumes};
 ghost use Rattle.ddr_io.specs.Faults.{Rose};
 ghost use Rattle.ddr_io.specs.Line.{next_bytes};
 ghost use Rattle.speed_bin.specs.Document.{header_stated};
-ghost use Rattle.ddr_text.specs.Opening.{IsOpening, IsAnswer, judged, with_feed, is_separator, is_large};
+ghost use Rattle.ddr_text.specs.Opening.{IsOpening, IsAnswer, judged, with_feed, is_large};
+ghost use Rattle.ddr_text.specs.Separator.{Ends, role_of_line};
 ghost use Rattle.ddr_text.specs.Front.{IsFront, GoesOn, FrontGoesOn, HasReason, IsJudged};
 
+ghost use Rattle.ddr_text.specs.declared.opening.Opening.TheVariants.{Accepted as AcceptedOpening};
+
 use crate::header_text::HeaderText;
+use crate::separator::{LineRole, role_of};
 use ddr_io::{Line, LineReader, OutOfMemory, Source};
-use speed_bin::{Header, HeaderFault, read_header};
+use speed_bin::{Header, HeaderFault, Version, read_header};
 use std::alloc::Global;
 
 // A header has at most so many bytes, with its line feeds.
@@ -20,21 +24,22 @@ const MOST_BYTES: usize = 65_536;
 pub enum Opening {
     /// This header, with this text.
     Accepted(Header, HeaderText),
-    /// It is refused with this reason: 11 to 17, or 21 to 28.
+    /// It is refused with this reason: 11 to 17, or 21 to 29.
     Refused(u8),
     /// The source had a fault.
     Failed,
 }
 
-// What stands before the line `---`.
+// What stands before the trace.
 #[derive(Drop)]
 enum Front {
-    Text(HeaderText),
+    // The text of the header, the separator with its line feed, and the version that this states.
+    Text(HeaderText, HeaderText, Version),
     Refused(u8),
     Failed,
 }
 
-/// Reads the header of a job, up to and with the line `---`, by `docs/FORMATS.md`. Behind a header that is accepted the
+/// Reads the header of a job, up to and with the separator, by `docs/FORMATS.md`. Behind a header that is accepted the
 /// reader goes on with the line after it. The reader is to have neither ended nor failed.
 ///
 /// # Errors
@@ -57,13 +62,13 @@ pub fn open_job<S: Source>(
     ensures taken { OnErr result ((bytes : List ℕ) × Consumes (next_bytes reader.old.held (S.left source.old)) (next_bytes reader.new.held (S.left source.new)) bytes) }
 {
     match read_front(alloc, reader, source)? {
-        Front::Text(text) => judge(alloc, text),
+        Front::Text(text, separator, version) => judge(alloc, text, separator, version),
         Front::Refused(reason) => Ok(Opening::Refused(reason)),
         Front::Failed => Ok(Opening::Failed),
     }
 }
 
-// Reads the lines before `---`, and that line.
+// Reads the lines before the separator, and that line.
 fn read_front<S: Source>(
     alloc: Global,
     reader: &mut LineReader,
@@ -82,13 +87,22 @@ fn read_front<S: Source>(
         match reader.next_line(source) {
             Line::Text => {
                 let line = reader.line();
-                if is_separator(line) {
-                    return Ok(Front::Text(text));
+                match role_of(line) {
+                    LineRole::Ends(version) => {
+                        let mut separator = HeaderText::new(alloc);
+                        separator.push_line(line)?;
+                        return Ok(Front::Text(text, separator, version));
+                    }
+                    LineRole::Faulty => {
+                        return Ok(Front::Refused(faulty_reason(&text, line)));
+                    }
+                    LineRole::Text => {
+                        if is_too_much(&text, line) {
+                            return Ok(Front::Refused(17));
+                        }
+                        text.push_line(line)?;
+                    }
                 }
-                if is_too_much(&text, line) {
-                    return Ok(Front::Refused(17));
-                }
-                text.push_line(line)?;
             }
             Line::TooLong => return Ok(Front::Refused(17)),
             Line::End => return Ok(Front::Refused(16)),
@@ -98,11 +112,14 @@ fn read_front<S: Source>(
     }
 }
 
-// Whether the line ends a header.
-fn is_separator(line: &[u8]) -> bool
-    ensures { result ≡ is_separator line.now }
+// The reason to refuse a line that begins as a separator and is none: 17 where the header would have too many bytes with it.
+fn faulty_reason(text: &HeaderText, line: &[u8]) -> u8
+    requires short { length line.now < 512 }
+    requires few { length text.now ≤ 65536 }
+    ensures reason { result ≡ (if is_large (text.now ++ with_feed line.now) then 17 else 29) }
+    ensures in_range { (17 ≤ result) × (result ≤ 29) }
 {
-    line == b"---".as_slice()
+    if is_too_much(text, line) { 17 } else { 29 }
 }
 
 // Whether a header would have too many bytes with this line.
@@ -114,13 +131,19 @@ fn is_too_much(text: &HeaderText, line: &[u8]) -> bool
     text.bytes().len() + line.len() + 1 > MOST_BYTES
 }
 
-// Reads a header, or says why it is refused.
-fn judge(alloc: Global, text: HeaderText) -> Result<Opening, OutOfMemory>
-    ensures judged { IfOk result (IsJudged text) }
+// Reads a header in front of a separator with this version, or says why it is refused.
+fn judge(
+    alloc: Global,
+    text: HeaderText,
+    separator: HeaderText,
+    version: Version,
+) -> Result<Opening, OutOfMemory>
+    requires { (line : List ℕ) × (separator ≡ with_feed line) × (role_of_line line ≡ Ends version) }
+    ensures judged { IfOk result (IsJudged text separator version) }
     ensures answer { IfOk result IsAnswer }
 {
-    match read_header(alloc, text.bytes()) {
-        Ok(header) => Ok(Opening::Accepted(header, text)),
+    match read_header(alloc, text.bytes(), version) {
+        Ok(header) => accept(header, text, &separator),
         Err(HeaderFault::NotToml) => Ok(Opening::Refused(11)),
         Err(HeaderFault::Key) => Ok(Opening::Refused(12)),
         Err(HeaderFault::Kind) => Ok(Opening::Refused(13)),
@@ -129,4 +152,16 @@ fn judge(alloc: Global, text: HeaderText) -> Result<Opening, OutOfMemory>
         Err(HeaderFault::Check(check)) => Ok(Opening::Refused(20 + check)),
         Err(HeaderFault::OutOfMemory) => Err(OutOfMemory),
     }
+}
+
+// The header with its text and its separator.
+fn accept(
+    header: Header,
+    mut text: HeaderText,
+    separator: &HeaderText,
+) -> Result<Opening, OutOfMemory>
+    ensures { IfOk result (λ opening. opening ≡ AcceptedOpening header (text ++ separator.now)) }
+{
+    text.push(separator.bytes())?;
+    Ok(Opening::Accepted(header, text))
 }

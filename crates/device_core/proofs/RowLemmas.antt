@@ -15,7 +15,8 @@ use Rattle.speed_bin.specs.Height.{height_of, greatest_upto}
 use Rattle.speed_bin.specs.Kinds.{Effect, Opens, Closes, Manages, Refreshes, Leaves, is_act}
 use Rattle.speed_bin.specs.Log.{Log, open_at}
 use Rattle.speed_bin.specs.Marks.{Keeps as KeepsRules}
-use Rattle.speed_bin.proofs.Tests.{none_from_test}
+use Rattle.speed_bin.proofs.Checks.{spare_in_range}
+use Rattle.speed_bin.proofs.Tests.{none_from_test, both}
 use Rattle.bank_state.specs.Standing.{Fits, StandsFor as BanksFor, MayIssue as MayFit}
 use Rattle.row_counts.specs.Held.{Held, HasRow, MayClose, MayMitigate}
 use Rattle.row_counts.specs.Standing.{StandsFor as CountsFor}
@@ -30,7 +31,7 @@ abbrev pub Bounded : Type 0
 Bounded = (h : Header) (b row : ℕ) (log : Log) → IsAccepted h → b < 32 → row < h.settings.rows → KeepsRules h log → acts h b row log ≤ bound h
 
 abbrev pub MayCloseLaw : Type 0
-MayCloseLaw = (it : Held) (h : Header) (b row : ℕ) (log : Log) → CountsFor it h b log → row < h.settings.rows → cnt h b row log < h.settings.ath + height_of 3 h.settings.rows + 3 → length log < 2 ^ 48 → MayClose it row
+MayCloseLaw = (it : Held) (h : Header) (b row : ℕ) (log : Log) → CountsFor it h b log → row < h.settings.rows → cnt h b row log < bound h → length log < 2 ^ 48 → MayClose it row
 
 abbrev pub MayMitigateLaw : Type 0
 MayMitigateLaw = (it : Held) (h : Header) (b : ℕ) (log : Log) → CountsFor it h b log → length log < 2 ^ 48 → MayMitigate it
@@ -41,11 +42,10 @@ fits h clock command log legal = let k = passes h clock command log legal in rec
 -- ---- Closings
 
 -- the counter of an open row is below the bound, since its last activation is not counted yet
-below_bound : (bounded : Bounded) (h : Header) (b row : ℕ) (log : Log) → IsAccepted h → AllLegal h log → b < 32 → open_at b log ≡ Some row → cnt h b row log < h.settings.ath + height_of 3 h.settings.rows + 3
-unfolding spare
+below_bound : (bounded : Bounded) (h : Header) (b row : ℕ) (log : Log) → IsAccepted h → AllLegal h log → b < 32 → open_at b log ≡ Some row → cnt h b row log < bound h
 below_bound bounded h b row log accepted legal low is =
     let s = sound h b log accepted legal low in
-    let most : acts h b row log ≤ h.settings.ath + height_of 3 h.settings.rows + 3 = bounded h b row log accepted low (s.inside row is) (keeps_log h log legal) in
+    let most : acts h b row log ≤ bound h = bounded h b row log accepted low (s.inside row is) (keeps_log h log legal) in
     let t : (row == row) ≡ true = eq-eqb row row refl in
     let a = s.agree row in
     let e : acts h b row log ≡ cnt h b row log + 1 = rw (is, t) at a in
@@ -133,15 +133,15 @@ one_more h clock bank row log accepted legal here =
     rw (own, same) (omega arith)
 
 -- so the count of an ACT's row fits
-pub few : (bounded : Bounded) (h : Header) (clock : ℕ) (bank : Bank) (row : ℕ) (log : Log) → IsAccepted h → AllLegal h log → IsLegal h clock (Act bank row) log → row < h.settings.rows → cnt h (bank_number bank) row log ≤ 1090
-unfolding spare
+pub few : (bounded : Bounded) (h : Header) (clock : ℕ) (bank : Bank) (row : ℕ) (log : Log) → IsAccepted h → AllLegal h log → IsLegal h clock (Act bank row) log → row < h.settings.rows → cnt h (bank_number bank) row log ≤ 1091
 few bounded h clock bank row log accepted legal here low =
     let b = low_bank bank here.in_range.0 in
     let before = acts_of_closed h (bank_number bank) row log accepted legal b (closed_at_act h clock bank row log here) in
-    let most : acts h (bank_number bank) row log ≤ h.settings.ath + height_of 3 h.settings.rows + 3 = bounded h (bank_number bank) row log accepted b low (keeps_log h log legal) in
-    let tall = height_few 3 h.settings.rows in
+    let most : acts h (bank_number bank) row log ≤ bound h = bounded h (bank_number bank) row log accepted b low (keeps_log h log legal) in
+    let tall = height_few (spare h) h.settings.rows in
     let ath = accepted.settings.ath.1 in
-    omega arith
+    let spares = (spare_in_range h accepted).1 in
+    omega (arith, before, most, tall, ath, spares)
 
 -- ---- The activation of an ACT
 
@@ -163,16 +163,16 @@ unfolding StandsFor
 act_row has by it clock bank row may = by (bank_at it.banks.items (bank_number bank)).counts row (∥∥₁_map may (λ p. go p.0 p.1 p.2 p.3))
   where
     go : (h : Header) (log : Log) → Keeps it h log → IsLegal h clock (Act bank row) log → HasRow (bank_at it.banks.items (bank_number bank)).counts row
-    go h log s legal = has (bank_at it.banks.items (bank_number bank)).counts h (bank_number bank) row log (s.counts (bank_number bank) (low_bank bank legal.in_range.0)).counts (ltb-true _ _ legal.row)
+    go h log s legal = has (bank_at it.banks.items (bank_number bank)).counts h (bank_number bank) row log (s.counts (bank_number bank) (low_bank bank legal.in_range.0)).counts (ltb-true _ _ (both _ _ legal.row).0)
 
-pub act_fits : (bounded : Bounded) (it : Activations) (clock : ℕ) (bank : Bank) (row n : ℕ) → MayIssue it clock (Act bank row) → ((h : Header) (log : Log) → BankFor (bank_at it.banks.items (bank_number bank)) h (bank_number bank) log → n ≡ cnt h (bank_number bank) row log) → n ≤ 1090
+pub act_fits : (bounded : Bounded) (it : Activations) (clock : ℕ) (bank : Bank) (row n : ℕ) → MayIssue it clock (Act bank row) → ((h : Header) (log : Log) → BankFor (bank_at it.banks.items (bank_number bank)) h (bank_number bank) log → n ≡ cnt h (bank_number bank) row log) → n ≤ 1091
 unfolding StandsFor
 act_fits bounded it clock bank row n may is = ∥∥₁_elim may le_prop (λ p. go p.0 p.1 p.2 p.3)
   where
-    go : (h : Header) (log : Log) → Keeps it h log → IsLegal h clock (Act bank row) log → n ≤ 1090
+    go : (h : Header) (log : Log) → Keeps it h log → IsLegal h clock (Act bank row) log → n ≤ 1091
     go h log s legal =
         let counted = is h log (s.counts (bank_number bank) (low_bank bank legal.in_range.0)) in
-        let small = few bounded h clock bank row log s.accepted s.legal legal (ltb-true _ _ legal.row) in
+        let small = few bounded h clock bank row log s.accepted s.legal legal (ltb-true _ _ (both _ _ legal.row).0) in
         omega arith
 
 pub peak_at_act : (it : Activations) (h : Header) (clock : ℕ) (command : Command) (bank : Bank) (row n p : ℕ) (log : Log) → command ≡ Act bank row → (BankFor (bank_at it.banks.items (bank_number bank)) h (bank_number bank) log → n ≡ cnt h (bank_number bank) row log) → p ≡ max (n + 1) it.peak → StandsFor it h log → IsLegal h clock command log → p ≡ peak h (record { clock = clock; command = command } ∷ log)

@@ -1,15 +1,19 @@
 -- What a legal log keeps.
-use Rattle.std.proofs.Common.{◌≡◌, ℕ, suc, ◌^◌, ◌<◌, ◌≤◌, Bool, true, false, refl, arith, Some, None, List, [], ◌∷◌, length, ltb-true}
+use Rattle.std.proofs.Common.{◌≡◌, ℕ, suc, ◌^◌, ◌<◌, ◌≤◌, Bool, true, false, refl, arith, Some, None, List, [], ◌∷◌, length, ltb-true, ◌⊎◌, inl, inr, sym, ◌∙◌}
 use Rattle.command_words.specs.Command.{bank_number, IsInRange, IsBank}
 use Rattle.command_words.specs.declared.command.Command.{Command}
-use Rattle.command_words.specs.declared.command.Command.TheVariants.{Act}
+use Rattle.command_words.specs.declared.command.Command.TheVariants.{Act, Rd, Wr, PrePb, PreSb, PreAb, RefAb, RefSb, RfmAb, RfmSb, Mrw, Ecs, Nop}
 use Rattle.command_words.specs.declared.place.Bank.{Bank}
 use Rattle.speed_bin.specs.declared.header.Header.{Header}
 use Rattle.speed_bin.specs.Counters.{acts, counters}
 use Rattle.speed_bin.specs.Counts.{peak}
 use Rattle.speed_bin.specs.Header.{IsAccepted, bound}
 use Rattle.speed_bin.specs.Log.{Log, open_at}
-use Rattle.speed_bin.specs.Marks.{Keeps, BanksInRange}
+use Rattle.speed_bin.specs.Marks.{Keeps, BanksInRange, is_in_range}
+use Rattle.speed_bin.specs.Present.{banks_of, has_bank, HasBanks}
+use Rattle.speed_bin.proofs.Present.{absent_closed}
+use Rattle.speed_bin.proofs.Splits.{below_or_not}
+use Rattle.speed_bin.proofs.Tests.{both}
 use Rattle.speed_bin.specs.Rules.{first_failing, rules_at, rule_1, rule_14}
 use Rattle.speed_bin.proofs.Audits.{AllTrue, peak_bounded}
 use Rattle.speed_bin.proofs.Bounds.{sound_log}
@@ -49,6 +53,35 @@ low_bank command bank row inside is = go (rw is at inside)
 banks_in_range : (h : Header) (log : Log) → AllLegal h log → BanksInRange log
 banks_in_range h [] legal = tt
 banks_in_range h (place ∷ log) legal = (banks_in_range h log legal.0, λ bank row is. low_bank place.command bank row legal.1.in_range is)
+
+-- ---- The banks that there are
+
+has_bank_of : (h : Header) (command : Command) → is_in_range h command ≡ true → has_bank h.version.groups command ≡ true
+has_bank_of h (Act bank row) here = (both _ _ here).1
+has_bank_of h (Rd bank column) here = here
+has_bank_of h (Wr bank column) here = here
+has_bank_of h (PrePb bank) here = here
+has_bank_of h (PreSb address) here = refl
+has_bank_of h PreAb here = refl
+has_bank_of h RefAb here = refl
+has_bank_of h (RefSb address) here = refl
+has_bank_of h RfmAb here = refl
+has_bank_of h (RfmSb address) here = refl
+has_bank_of h (Mrw write) here = refl
+has_bank_of h Ecs here = refl
+has_bank_of h Nop here = refl
+
+has_banks : (h : Header) (log : Log) → AllLegal h log → HasBanks h.version.groups log
+has_banks h [] legal = tt
+has_banks h (place ∷ log) legal = (has_banks h log legal.0, has_bank_of h place.command legal.1.row)
+
+-- a bank that is open is one of the header's groups
+pub open_group : (h : Header) (bank : Bank) (row : ℕ) (log : Log) → AllLegal h log → open_at (bank_number bank) log ≡ Some row → bank.group < h.version.groups
+open_group h bank row log legal is = go (below_or_not bank.group h.version.groups)
+  where
+    go : (bank.group < h.version.groups) ⊎ (h.version.groups ≤ bank.group) → bank.group < h.version.groups
+    go (inl low) = low
+    go (inr high) = let none = absent_closed h.version.groups (bank_number bank) log (omega (arith, high)) (has_banks h log legal) in let k : None ≡ Some row = sym none ∙ is in absurd (cc)
 
 -- a log has fewer places than its next clock
 pub is_short : (h : Header) (clock : ℕ) (log : Log) → AllLegal h log → rule_1 clock log ≡ true → length log ≤ clock

@@ -1,5 +1,5 @@
 -- Scripts that tests play are legal, and what playing one line takes.
-use Rattle.std.proofs.Common.{◌≡◌, ◌∙◌, ◌<◌, ℕ, zero, suc, ◌+◌, Bool, true, false, cond, Option, Some, None, is_some, List, [], ◌∷◌, length, drop, get_or, Result, Ok, Err, IfOk, is_none, nat_lt, refl, sym, ap, subst, arith, leb-true, ltb-true}
+use Rattle.std.proofs.Common.{◌≡◌, ◌∙◌, ◌<◌, ℕ, zero, suc, ◌+◌, Bool, true, false, cond, Option, Some, None, is_some, List, [], ◌∷◌, length, drop, get_or, Result, Ok, Err, IfOk, is_none, nat_lt, refl, sym, ap, subst, arith, leb-true, ltb-true, inr}
 use Rattle.command_words.specs.Command.{IsInRange}
 use Rattle.command_words.specs.Decode.{decode_of, named_in}
 use Rattle.command_words.specs.Words.{Spells}
@@ -11,6 +11,7 @@ use Rattle.speed_bin.specs.declared.settings.RefreshMode.TheVariants.{All}
 use Rattle.speed_bin.specs.Below.{all_below, any_below}
 use Rattle.speed_bin.specs.Gap.{n_tail, n_max, n_close, n_col}
 use Rattle.speed_bin.specs.Header.{IsAccepted, spare}
+use Rattle.speed_bin.specs.Version.{plain}
 use Rattle.speed_bin.specs.Kinds.{is_wr}
 use Rattle.speed_bin.specs.Timing.{tiny}
 use Rattle.speed_bin.proofs.SpareIsNeeded.{tiny_timing}
@@ -113,6 +114,7 @@ small rows eth raaimt raammt ecs_every = record {
     refresh = All;
     ecs_every = ecs_every;
   };
+  version = plain;
 }
 
 pub sixteen_rows_accepted : IsAccepted (small 16 3 8 16 0)
@@ -127,6 +129,7 @@ sixteen_rows_accepted = record {
     raammt = (leb-true _ _ refl, leb-true _ _ refl);
     ecs_every = leb-true _ _ refl;
   };
+  version = (leb-true _ _ refl, leb-true _ _ refl, inr refl);
   checks = record {
     precharge_within_cycle = leb-true _ _ refl;
     window = ltb-true _ _ refl;
@@ -151,6 +154,7 @@ scrubbed_accepted = record {
     raammt = (leb-true _ _ refl, leb-true _ _ refl);
     ecs_every = leb-true _ _ refl;
   };
+  version = (leb-true _ _ refl, leb-true _ _ refl, inr refl);
   checks = record {
     precharge_within_cycle = leb-true _ _ refl;
     window = ltb-true _ _ refl;
@@ -175,6 +179,7 @@ two_rows_accepted = record {
     raammt = (leb-true _ _ refl, leb-true _ _ refl);
     ecs_every = leb-true _ _ refl;
   };
+  version = (leb-true _ _ refl, leb-true _ _ refl, inr refl);
   checks = record {
     precharge_within_cycle = leb-true _ _ refl;
     window = ltb-true _ _ refl;
@@ -342,9 +347,9 @@ raised_twice_is_legal bytes = refl
 
 -- ---- Bits of line 0
 
-pub is_bit : (h : Header) (of bit : ℕ) → nat_lt 0 h.settings.rows ≡ true → nat_lt of 4 ≡ true → nat_lt bit 136 ≡ true → IsBit h first_place of bit
-is_bit h of bit rows four word = record {
-  inside = record { row = ltb-true _ _ rows; group = ltb-true 0 8 refl };
+pub is_bit : (h : Header) (of bit : ℕ) → nat_lt 0 h.settings.rows ≡ true → nat_lt 0 h.version.groups ≡ true → nat_lt of 4 ≡ true → nat_lt bit 136 ≡ true → IsBit h first_place of bit
+is_bit h of bit rows some four word = record {
+  inside = record { row = ltb-true _ _ rows; group = ltb-true _ _ some };
   of_four = ltb-true _ _ four;
   in_word = ltb-true _ _ word;
 }

@@ -30,7 +30,7 @@ use Rattle.device_core.specs.Standing.{Keeps, StandsFor, StandsForSome, IsGiven,
 use Rattle.device_core.specs.declared.activations.Activations.{Activations}
 use Rattle.device_core.specs.declared.device.Device.{Device}
 use Rattle.device_core.specs.declared.store.Store.{Store}
-use Rattle.device_core.proofs.Rules.{passes, short_log, open_inside}
+use Rattle.device_core.proofs.Rules.{passes, short_log, open_inside, open_group}
 use Rattle.device_core.proofs.RowLemmas.{low_bank}
 
 -- ---- Equal numbers and shapes by some list
@@ -144,7 +144,7 @@ row_inside device bank column row low may is = record {
     go : (h : Header) (steps : List Step) → Keeps device h steps → IsInside (record { bank = bank; row = row; column = column }) (shape_of device.store.cells)
     go h steps s = subst (IsInside (record { bank = bank; row = row; column = column })) (sym s.store.shape) (record {
       row = open_inside h (bank_number bank) row (log_of steps) s.activations.accepted s.activations.legal low (sym (is h steps s));
-      group = omega arith;
+      group = open_group h bank row (log_of steps) s.activations.legal (sym (is h steps s));
     })
 
 -- ---- A turned bit

@@ -17,9 +17,9 @@ use Rattle.error_scrub.specs.declared.cells.LineRead.{LineRead}
 use Rattle.error_scrub.specs.declared.scrub.ScrubCounts.{ScrubCounts}
 use Rattle.device_core.specs.Steps.{Step, Issues, Flips, log_of}
 
--- the header's rows, and 8 groups
+-- the header's rows, and the groups of its version
 abbrev pub shape : Header → Shape
-shape h = record { rows = h.settings.rows; groups = 8 }
+shape h = record { rows = h.settings.rows; groups = h.version.groups }
 
 -- the place of a bank and a column in the open row of the bank
 abbrev pub place_in : Bank → ℕ → Option ℕ → Option Place

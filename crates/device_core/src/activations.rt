@@ -54,7 +54,7 @@ impl Activations {
     {
         let mut banks = Vec::with_capacity(alloc, 32)?;
         for _ in 0..32_usize {
-            let rows = BankRows::new(alloc, &header.settings)?;
+            let rows = BankRows::new(alloc, &header.settings, header.version)?;
             if banks.push(rows).is_err() {
                 return Err(OutOfMemory);
             }

@@ -1,5 +1,5 @@
 //! The row counters of one bank, as a device keeps them.
-ghost use Rattle.std.specs.Prelude.{ℕ, [], ◌∷◌, Some, ◌≡◌, ◌<◌, ◌≤◌, nat_le, IfOk};
+ghost use Rattle.std.specs.Prelude.{ℕ, [], ◌∷◌, Some, suc, ◌≡◌, ◌<◌, ◌≤◌, nat_le, IfOk};
 ghost use Rattle.speed_bin.specs.Counters.{cnt};
 ghost use Rattle.command_words.specs.Command.{bank_number};
 ghost use Rattle.command_words.specs.declared.command.Command.{Command as AnyCommand};
@@ -13,7 +13,7 @@ ghost use Rattle.row_counts.specs.Standing.{StandsFor as CountsFor};
 use command_words::{Bank, Command, Row, covers};
 use ddr_io::OutOfMemory;
 use row_counts::{BankCounts, laws};
-use speed_bin::Settings;
+use speed_bin::{Settings, Version};
 use std::alloc::Global;
 
 /// What a command does to the row counters of a bank.
@@ -62,13 +62,17 @@ impl BankRows {
     ghost use Rattle.device_core.specs.Rows.{BankFor, MayTouch, greatest_count, touch_of};
 
     // Every counter is 0.
-    pub(crate) fn new(alloc: Global, settings: &Settings) -> Result<BankRows, OutOfMemory>
+    pub(crate) fn new(
+        alloc: Global,
+        settings: &Settings,
+        version: Version,
+    ) -> Result<BankRows, OutOfMemory>
         requires ranges { IsSettings settings.now }
-        requires thresholds { (5 ≤ settings.now.ath) × (settings.now.eth ≤ settings.now.ath) }
-        ensures { IfOk result (λ rows. (h : AnyHeader) (b : ℕ) → h.settings ≡ settings.now → BankFor rows h b []) }
+        requires thresholds { (suc version.cycle ≤ settings.now.ath) × (settings.now.eth ≤ settings.now.ath) }
+        ensures { IfOk result (λ rows. (h : AnyHeader) (b : ℕ) → h.settings ≡ settings.now → h.version ≡ version → BankFor rows h b []) }
     {
         Ok(BankRows {
-            counts: BankCounts::new(alloc, settings)?,
+            counts: BankCounts::new(alloc, settings, version)?,
             is_hot: false,
         })
     }

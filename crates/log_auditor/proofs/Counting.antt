@@ -5,7 +5,7 @@ use Rattle.command_words.specs.declared.command.Command.{Command}
 use Rattle.speed_bin.specs.declared.header.Header.{Header}
 use Rattle.speed_bin.specs.Below.{any_below}
 use Rattle.speed_bin.specs.Counters.{Counter, count_of, tracked, counters, counters_after, cnt, acts}
-use Rattle.speed_bin.specs.Header.{IsAccepted, bound, spare}
+use Rattle.speed_bin.specs.Header.{IsAccepted, bound}
 use Rattle.speed_bin.specs.Height.{height_of}
 use Rattle.speed_bin.specs.Kinds.{Effect, Opens, Closes, Manages, Refreshes, Leaves, effect}
 use Rattle.speed_bin.specs.Log.{Log, open_at}
@@ -39,12 +39,11 @@ open_count opened row n m e k = go (one_if_open opened row) (one opened e) k
     go : (x : ℕ) → x ≡ 1 → n ≡ m + x → n ≡ m + 1
     go x f g = omega arith
 
-below : (h : Header) (n m : ℕ) → n ≤ bound h → n ≡ m + 1 → m < h.settings.ath + height_of 3 h.settings.rows + 3
-unfolding spare
+below : (h : Header) (n m : ℕ) → n ≤ bound h → n ≡ m + 1 → m < bound h
 below h n m most is = omega arith
 
 -- its closing may be counted
-pub counted_below : (h : Header) (b row : ℕ) (log : Log) → IsAccepted h → b < 32 → Keeps h log → open_at b log ≡ Some row → acts h b row log ≤ bound h → cnt h b row log < h.settings.ath + height_of 3 h.settings.rows + 3
+pub counted_below : (h : Header) (b row : ℕ) (log : Log) → IsAccepted h → b < 32 → Keeps h log → open_at b log ≡ Some row → acts h b row log ≤ bound h → cnt h b row log < bound h
 counted_below h b row log ok low kept e most =
     below h (acts h b row log) (cnt h b row log) most (open_count (open_at b log) row (acts h b row log) (cnt h b row log) e ((sound h b log ok low kept).agree row))
 

@@ -1,5 +1,8 @@
 -- The least rule that fails, by what decides the rules; and what a log without a breach keeps.
-use Rattle.std.proofs.Common.{◌≡◌, ◌∙◌, ℕ, suc, ◌<◌, ◌≤◌, ◌^◌, Bool, true, false, cond, nat_le, nat_lt, Option, Some, None, List, [], ◌∷◌, length, min, IsTrue, refl, sym, ap, arith, ltb-true}
+use Rattle.std.proofs.Common.{◌*◌, lt-ltb, ◌≡◌, ◌∙◌, ℕ, suc, ◌<◌, ◌≤◌, ◌^◌, Bool, true, false, cond, nat_le, nat_lt, Option, Some, None, List, [], ◌∷◌, length, min, IsTrue, refl, sym, ap, arith, ltb-true}
+use Rattle.speed_bin.proofs.Tests.{both, joined}
+use Rattle.command_words.specs.declared.place.Bank.{Bank}
+use Rattle.command_words.specs.Command.{bank_number, IsBank, IsInRange}
 use Rattle.std.specs.Option.{option_or}
 use Rattle.bank_state.specs.Standing.{Fits}
 use Rattle.command_words.specs.declared.command.Command.{Command}
@@ -7,7 +10,7 @@ use Rattle.command_words.specs.declared.command.Command.TheVariants.{Act, Rd, Wr
 use Rattle.ddr_text.specs.ReportGrammar.{has_row}
 use Rattle.refresh_plan.specs.Standing.{IsAllowed, refresh_rules}
 use Rattle.speed_bin.specs.Log.{Log, Issued}
-use Rattle.speed_bin.specs.Marks.{Keeps, RowsInRange, is_in_range}
+use Rattle.speed_bin.specs.Marks.{is_bank, Keeps, RowsInRange, is_in_range}
 use Rattle.speed_bin.specs.Rules.{MayFollow, first_failing, rule_1, rule_2, rule_3, rule_4, rule_5, rule_6, rule_7, rule_8, rule_9, rule_10, rule_11, rule_12, rule_13, rule_14, rules_at, rules_at_end, verdict, verdict_after, verdict_at_end}
 use Rattle.speed_bin.specs.declared.header.Header.{Header}
 use Rattle.speed_bin.proofs.Audits.{fine_keeps}
@@ -133,20 +136,25 @@ still_fine h clock command log e f = rw (e, f) refl
 
 -- ---- Ranges
 
-pub in_range : (h : Header) (command : Command) → has_row (shape_of h) command ≡ true → is_in_range h command ≡ true
-in_range h (Act bank row) e = e
-in_range h (Rd bank column) e = refl
-in_range h (Wr bank column) e = refl
-in_range h (PrePb bank) e = refl
-in_range h (PreSb address) e = refl
-in_range h PreAb e = refl
-in_range h RefAb e = refl
-in_range h (RefSb address) e = refl
-in_range h RfmAb e = refl
-in_range h (RfmSb address) e = refl
-in_range h (Mrw write) e = refl
-in_range h Ecs e = refl
-in_range h Nop e = refl
+own_bank : (h : Header) (bank : Bank) → IsBank bank → nat_lt bank.group h.version.groups ≡ true → is_bank h bank ≡ true
+own_bank h bank inside here = let low = ltb-true bank.group h.version.groups here in let a = inside.address in lt-ltb (bank_number bank) (h.version.groups * 4) (omega (arith, low, a))
+
+pub in_range : (h : Header) (command : Command) → IsInRange command → has_row (shape_of h) command ≡ true → is_in_range h command ≡ true
+in_range h (Act bank row) inside e =
+    let p = both (nat_lt row h.settings.rows) (nat_lt bank.group h.version.groups) e in
+    joined (nat_lt row h.settings.rows) (is_bank h bank) p.0 (own_bank h bank inside.0 p.1)
+in_range h (Rd bank column) inside e = own_bank h bank inside.0 e
+in_range h (Wr bank column) inside e = own_bank h bank inside.0 e
+in_range h (PrePb bank) inside e = own_bank h bank inside e
+in_range h (PreSb address) inside e = refl
+in_range h PreAb inside e = refl
+in_range h RefAb inside e = refl
+in_range h (RefSb address) inside e = refl
+in_range h RfmAb inside e = refl
+in_range h (RfmSb address) inside e = refl
+in_range h (Mrw write) inside e = refl
+in_range h Ecs inside e = refl
+in_range h Nop inside e = refl
 
 -- a log has no more places than its next clock says
 pub few_places : (h : Header) (clock : ℕ) (log : Log) → Keeps h log → rule_1 clock log ≡ true → length log ≤ clock

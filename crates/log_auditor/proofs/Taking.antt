@@ -52,7 +52,7 @@ fine_log it h log keeps e = fine_keeps h log keeps.rows (told_fine (verdict h lo
 -- ---- A command
 
 rows_next : (h : Header) (clock : ℕ) (command : Command) (log : Log) → RowsInRange h log → IsReportLine (shape_of h) (Issued clock command) → RowsInRange h (record { clock = clock; command = command } ∷ log)
-rows_next h clock command log rows line = (rows, in_range h command line.2)
+rows_next h clock command log rows line = (rows, in_range h command line.1 line.2)
 
 pub may_count : (it : Auditor) (h : Header) (clock : ℕ) (command : Command) (log : Log) → Keeps it h log → is_open it.state ≡ true → IsReportLine (shape_of h) (Issued clock command) → first_broken h clock command log ≡ None → MayCount h clock command log
 may_count it h clock command log keeps opened line none =

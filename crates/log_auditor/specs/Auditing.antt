@@ -48,7 +48,7 @@ write_of _ = None
 
 -- the shape of the subchannel of a header
 abbrev pub shape_of : Header → Shape
-shape_of h = record { rows = h.settings.rows; groups = 8 }
+shape_of h = record { rows = h.settings.rows; groups = h.version.groups }
 
 -- ---- Standing for a log
 

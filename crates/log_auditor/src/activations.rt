@@ -1,5 +1,5 @@
 //! The row counters of all banks, and the alert that they raise.
-ghost use Rattle.std.specs.Prelude.{ℕ, ◌≡◌, ◌<◌, ◌≤◌, ◌^◌, ◌∷◌, [], IfOk, length, slice_index_or};
+ghost use Rattle.std.specs.Prelude.{suc, ℕ, ◌≡◌, ◌<◌, ◌≤◌, ◌^◌, ◌∷◌, [], IfOk, length, slice_index_or};
 ghost use Rattle.backoff.specs.Standing.{StandsFor as AlertStandsFor};
 ghost use Rattle.bank_state.specs.Standing.{StandsFor as BanksStandFor};
 ghost use Rattle.command_words.specs.Command.{bank_number};
@@ -17,7 +17,7 @@ use backoff::Alert;
 use bank_state::Banks;
 use command_words::{Bank, BankAddr, Command, Group};
 use ddr_io::OutOfMemory;
-use speed_bin::Settings;
+use speed_bin::{Settings, Version};
 use std::alloc::Global;
 
 const BANKS: u8 = 32;
@@ -32,14 +32,18 @@ pub(crate) struct Activations {
 
 impl Activations {
     // Of no command yet.
-    pub(crate) fn new(alloc: Global, settings: &Settings) -> Result<Activations, OutOfMemory>
+    pub(crate) fn new(
+        alloc: Global,
+        settings: &Settings,
+        version: Version,
+    ) -> Result<Activations, OutOfMemory>
         requires ranges { IsSettings settings.now }
-        requires thresholds { (5 ≤ settings.now.ath) × (settings.now.eth ≤ settings.now.ath) }
-        ensures { IfOk result (λ it. (h : AnyHeader) → h.settings ≡ settings.now → ActivationsKeep it h []) }
+        requires thresholds { (suc version.cycle ≤ settings.now.ath) × (settings.now.eth ≤ settings.now.ath) }
+        ensures { IfOk result (λ it. (h : AnyHeader) → h.settings ≡ settings.now → h.version ≡ version → ActivationsKeep it h []) }
     {
         let mut banks = Vec::new(alloc);
         for _ in 0..BANKS {
-            let bank = BankActivity::new(alloc, settings)?;
+            let bank = BankActivity::new(alloc, settings, version)?;
             if banks.push(bank).is_err() {
                 return Err(OutOfMemory);
             }

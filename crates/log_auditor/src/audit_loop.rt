@@ -76,11 +76,9 @@ fn find<S: Source>(alloc: Global, source: &mut S) -> Result<Finding, Stop>
 {
     let mut reader = LineReader::new();
     match open_job(alloc, &mut reader, source) {
-        Ok(opening) => match opening {
-            Opening::Accepted(header, _) => find_behind(alloc, &header, reader, source),
-            Opening::Refused(reason) => Ok(Finding::Refused(0, reason)),
-            Opening::Failed => Err(Stop::ReadFault),
-        },
+        Ok(Opening::Accepted(header, _text)) => find_behind(alloc, &header, reader, source),
+        Ok(Opening::Refused(reason)) => Ok(Finding::Refused(0, reason)),
+        Ok(Opening::Failed) => Err(Stop::ReadFault),
         Err(_) => Err(Stop::OutOfMemory),
     }
 }

@@ -62,7 +62,7 @@ impl Auditor {
         ensures { IfOk result (λ auditor. StandsFor auditor header.now []) }
     {
         let ledger = Ledger::new(alloc, header)?;
-        let activations = Activations::new(alloc, &header.settings)?;
+        let activations = Activations::new(alloc, &header.settings, header.version)?;
         Ok(Auditor {
             timing: header.timing,
             raaimt: header.settings.raaimt,

@@ -1,5 +1,5 @@
 //! The row counters of one bank, and whether some row of it is hot.
-ghost use Rattle.std.specs.Prelude.{ℕ, ◌≡◌, ◌<◌, ◌≤◌, ◌^◌, ◌∷◌, [], Some, IfOk};
+ghost use Rattle.std.specs.Prelude.{suc, ℕ, ◌≡◌, ◌<◌, ◌≤◌, ◌^◌, ◌∷◌, [], Some, IfOk};
 ghost use Rattle.command_words.specs.Command.{bank_number, covers};
 ghost use Rattle.command_words.specs.declared.command.Command.{Command as AnyCommand};
 ghost use Rattle.row_counts.specs.Held.{MayClose};
@@ -14,7 +14,7 @@ use command_words::{Bank, Command, Row, covers};
 use ddr_io::OutOfMemory;
 use row_counts::BankCounts;
 use row_counts::laws::{may_change, stays};
-use speed_bin::Settings;
+use speed_bin::{Settings, Version};
 use std::alloc::Global;
 
 /// The activations of one bank's rows.
@@ -62,12 +62,16 @@ impl Touch {
 
 impl BankActivity {
     // No row was closed yet.
-    pub(crate) fn new(alloc: Global, settings: &Settings) -> Result<BankActivity, OutOfMemory>
+    pub(crate) fn new(
+        alloc: Global,
+        settings: &Settings,
+        version: Version,
+    ) -> Result<BankActivity, OutOfMemory>
         requires ranges { IsSettings settings.now }
-        requires thresholds { (5 ≤ settings.now.ath) × (settings.now.eth ≤ settings.now.ath) }
-        ensures { IfOk result (λ it. (h : AnyHeader) (b : ℕ) → h.settings ≡ settings.now → BankKeeps it h b []) }
+        requires thresholds { (suc version.cycle ≤ settings.now.ath) × (settings.now.eth ≤ settings.now.ath) }
+        ensures { IfOk result (λ it. (h : AnyHeader) (b : ℕ) → h.settings ≡ settings.now → h.version ≡ version → BankKeeps it h b []) }
     {
-        let counts = BankCounts::new(alloc, settings)?;
+        let counts = BankCounts::new(alloc, settings, version)?;
         Ok(BankActivity {
             counts,
             ath: settings.ath,

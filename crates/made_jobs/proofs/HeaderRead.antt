@@ -1,15 +1,16 @@
 -- The header of a made job states its numbers.
-use Rattle.std.proofs.Common.{◌≡◌, Ok, refl, lit≤, lit<}
+use Rattle.std.proofs.Common.{◌≡◌, Ok, refl, lit≤, lit<, inr}
 use Rattle.std.specs.Str.{is_utf8, chars}
 use Rattle.toml.proofs.OnLiterals.{toml_on_literals}
 use Rattle.speed_bin.specs.Document.{header_stated, settings_in, replaced, window_fits, thresholds_fit, round_within_half, checks_of}
 use Rattle.speed_bin.specs.Gap.{n_col, n_max, n_close, n_tail}
 use Rattle.speed_bin.specs.Header.{IsAccepted, spare}
+use Rattle.speed_bin.specs.Version.{plain}
 use Rattle.speed_bin.specs.Keys.{is_timing_key, key_fits, kind_fits, range_fits, has_required}
 use Rattle.made_jobs.specs.Made.{header_text, header_lines}
 use Rattle.made_jobs.specs.Replayed.{made_header}
 
-pub header_read : header_stated header_text ≡ Ok made_header
+pub header_read : header_stated plain header_text ≡ Ok made_header
 unfolding is_utf8 chars toml_on_literals header_text header_lines made_header settings_in replaced window_fits thresholds_fit round_within_half checks_of n_col n_max n_close n_tail spare is_timing_key key_fits kind_fits range_fits has_required
 header_read = refl
 
@@ -50,6 +51,7 @@ header_accepted = record {
     raammt = (lit≤ tt, lit≤ tt);
     ecs_every = lit≤ tt;
   };
+  version = (lit≤ tt, lit≤ tt, inr refl);
   checks = record {
     precharge_within_cycle = lit≤ tt;
     window = lit< tt;

@@ -6,6 +6,7 @@ use Rattle.ddr_text.specs.Grammar.{trace_line_of}
 use Rattle.ddr_text.specs.declared.lines.TraceLine.{TraceLine}
 use Rattle.ddr_text.specs.declared.lines.TraceLine.TheVariants.{Read, Write, Flip, Idle}
 use Rattle.speed_bin.specs.Timing.{prac_4800}
+use Rattle.speed_bin.specs.Version.{plain}
 use Rattle.speed_bin.specs.declared.header.Header.{Header}
 use Rattle.speed_bin.specs.declared.settings.RefreshMode.TheVariants.{All as AllBanks}
 use Rattle.made_jobs.specs.TraceText.{trace_text}
@@ -15,6 +16,7 @@ unfoldable pub made_header : Header
 made_header = record {
   timing = prac_4800;
   settings = record { rows = 65536; ath = 64; eth = 32; raaimt = 32; raammt = 64; refresh = AllBanks; ecs_every = 8 };
+  version = plain;
 }
 
 -- the subchannel's shape

@@ -3,6 +3,7 @@ ghost use Rattle.std.specs.Prelude.{ℕ, ◌≡◌, length, Ok};
 ghost use Rattle.std.specs.List.{All};
 ghost use Rattle.speed_bin.specs.Document.{header_stated};
 ghost use Rattle.speed_bin.specs.Header.{IsAccepted};
+ghost use Rattle.speed_bin.specs.Version.{plain};
 ghost use Rattle.made_jobs.specs.Made.{made_trace, header_text};
 ghost use Rattle.made_jobs.specs.Replayed.{IsReadBack, made_header};
 
@@ -10,7 +11,7 @@ use ddr_text::trace_grammar;
 
 /// The header of a made job is read, and accepted.
 pub fn makes_a_header()
-    ensures stated { header_stated header_text ≡ Ok made_header }
+    ensures stated { header_stated plain header_text ≡ Ok made_header }
     ensures accepted { IsAccepted made_header }
 {}
 

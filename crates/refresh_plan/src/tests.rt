@@ -3,7 +3,7 @@ ghost use Rattle.refresh_plan.specs.Standing.{StandsForSome};
 
 use crate::{Due, Plan};
 use command_words::{BankAddr, Command};
-use speed_bin::{Header, RefreshMode, Settings, named};
+use speed_bin::{Header, RefreshMode, Settings, Version, named};
 use std::test::Fail;
 
 fn plan(bin: &str, refresh: RefreshMode, ecs_every: u32) -> Option<Plan>
@@ -22,7 +22,7 @@ fn plan(bin: &str, refresh: RefreshMode, ecs_every: u32) -> Option<Plan>
         refresh,
         ecs_every,
     };
-    Some(Plan::new(&Header { timing, settings }))
+    Some(Plan::new(&Header { timing, settings, version: Version::plain() }))
 }
 
 fn ref_same(address: u8) -> Option<Command> {

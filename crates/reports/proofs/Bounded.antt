@@ -1,5 +1,7 @@
 -- The verdict on a sound run's log, and the bound on activations up to each place of it.
-use Rattle.std.proofs.Common.{◌≡◌, ℕ, suc, ◌<◌, ◌≤◌, None, List, [], ◌∷◌, length, refl, ap, ◌∙◌}
+use Rattle.std.proofs.Common.{true, arith, ◌*◌, nat_lt, ◌≡◌, ℕ, suc, ◌<◌, ◌≤◌, None, List, [], ◌∷◌, length, refl, ap, ◌∙◌}
+use Rattle.command_words.specs.declared.place.Bank.{Bank}
+use Rattle.command_words.specs.Command.{bank_number}
 use Rattle.std.specs.Prelude.{IsTrue}
 use Rattle.std.proofs.lemmas.Bool.{lt-ltb}
 use Rattle.command_words.specs.declared.command.Command.{Command}
@@ -7,8 +9,9 @@ use Rattle.command_words.specs.declared.command.Command.TheVariants.{Act, Rd, Wr
 use Rattle.speed_bin.specs.Counters.{acts}
 use Rattle.speed_bin.specs.Header.{IsAccepted, bound}
 use Rattle.speed_bin.specs.Log.{Log}
-use Rattle.speed_bin.specs.Marks.{is_in_range, Keeps}
+use Rattle.speed_bin.specs.Marks.{is_bank, is_in_range, Keeps}
 use Rattle.speed_bin.specs.Rules.{broken, broken_at_end, verdict, verdict_after, verdict_at_end}
+use Rattle.speed_bin.proofs.Tests.{joined}
 use Rattle.speed_bin.specs.declared.header.Header.{Header}
 use Rattle.requests.specs.Queue.{shape_of}
 use Rattle.ddr_text.specs.Ranges.{IsWithin}
@@ -29,11 +32,14 @@ verdict-run h trace run clock r =
     ap (λ v. verdict_after v (suc (length (log_of run))) (broken_at_end h clock (log_of run))) (verdict-sound h trace run r.sound)
     ∙ ap (verdict_after None (suc (length (log_of run)))) r.ends
 
+own-bank : (h : Header) (bank : Bank) → bank.group < h.version.groups → bank.address < 4 → is_bank h bank ≡ true
+own-bank h bank group address = lt-ltb (bank_number bank) (h.version.groups * 4) (omega (arith, group, address))
+
 pub row-in-range : (h : Header) (command : Command) → IsWithin (shape_of h) command → IsTrue (is_in_range h command)
-row-in-range h (Act bank row) w = lt-ltb row h.settings.rows w.1
-row-in-range h (Rd bank column) w = refl
-row-in-range h (Wr bank column) w = refl
-row-in-range h (PrePb bank) w = refl
+row-in-range h (Act bank row) w = joined (nat_lt row h.settings.rows) (is_bank h bank) (lt-ltb row h.settings.rows w.1) (own-bank h bank w.0.group w.0.address)
+row-in-range h (Rd bank column) w = own-bank h bank w.0.group w.0.address
+row-in-range h (Wr bank column) w = own-bank h bank w.0.group w.0.address
+row-in-range h (PrePb bank) w = own-bank h bank w.group w.address
 row-in-range h (PreSb address) w = refl
 row-in-range h PreAb w = refl
 row-in-range h RefAb w = refl

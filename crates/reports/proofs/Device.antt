@@ -1,5 +1,5 @@
 -- Each step of a sound run is one step of a device.
-use Rattle.std.proofs.Common.{◌≡◌, ℕ, ◌-◌, ◌*◌, ◌/◌, ◌<◌, true, false, cond, Option, Some, None, List, [], ◌∷◌, slice_get, refl, sym, ap, ◌∙◌, subst, arith}
+use Rattle.std.proofs.Common.{inl, inr, ◌≡◌, ℕ, ◌-◌, ◌*◌, ◌/◌, ◌<◌, true, false, cond, Option, Some, None, List, [], ◌∷◌, slice_get, refl, sym, ap, ◌∙◌, subst, arith}
 use Rattle.std.specs.Prelude.{IfSome, option_map, is_some}
 use Rattle.std.proofs.Math.Nat.{div-lt_iff_lt-mul, mod-lt}
 use Rattle.command_words.specs.Command.{IsInRange}
@@ -27,6 +27,7 @@ use Rattle.reports.specs.Readings.{changes, before, reading_of}
 use Rattle.reports.specs.Sound.{IsSoundPlace, Sound}
 use Rattle.reports.proofs.Bounded.{row-in-range}
 use Rattle.reports.proofs.Columns.{none-column, some-column}
+use Rattle.command_words.specs.Geometry.{IsGroups}
 use Rattle.reports.proofs.Found.{is_at}
 use Rattle.reports.proofs.Kept.{fourth-rule}
 use Rattle.reports.proofs.Memory.{line-number}
@@ -35,11 +36,20 @@ use Rattle.reports.proofs.Stored.{log-device, line-rd, inside-at}
 
 -- ---- The command
 
+-- a header has some bank groups, and at most 8
+some-groups : (k : ℕ) → IsGroups k → 0 < k
+some-groups k (inl e) = omega (arith, e)
+some-groups k (inr e) = omega (arith, e)
+
+few-groups : (g k : ℕ) → IsGroups k → g < k → g < 8
+few-groups g k (inl e) low = omega (arith, e, low)
+few-groups g k (inr e) low = omega (arith, e, low)
+
 in-range : (h : Header) (command : Command) → IsAccepted h → IsWithin (shape_of h) command → IsInRange command
-in-range h (Act bank row) a w = (record { group = w.0.group; address = w.0.address }, omega (arith, w.1, a.settings.rows.1))
-in-range h (Rd bank column) a w = (record { group = w.0.group; address = w.0.address }, w.1)
-in-range h (Wr bank column) a w = (record { group = w.0.group; address = w.0.address }, w.1)
-in-range h (PrePb bank) a w = record { group = w.group; address = w.address }
+in-range h (Act bank row) a w = (record { group = few-groups bank.group h.version.groups a.version.2 w.0.group; address = w.0.address }, omega (arith, w.1, a.settings.rows.1))
+in-range h (Rd bank column) a w = (record { group = few-groups bank.group h.version.groups a.version.2 w.0.group; address = w.0.address }, w.1)
+in-range h (Wr bank column) a w = (record { group = few-groups bank.group h.version.groups a.version.2 w.0.group; address = w.0.address }, w.1)
+in-range h (PrePb bank) a w = record { group = few-groups bank.group h.version.groups a.version.2 w.group; address = w.address }
 in-range h (PreSb address) a w = w
 in-range h PreAb a w = tt
 in-range h RefAb a w = tt
@@ -109,17 +119,18 @@ given h trace run s accepted sound = record {
 div-below : (k x y : ℕ) → 0 < k → x < y * k → x / k < y
 div-below k x y some low = (div-lt_iff_lt-mul {k = k} {x = x} {y = y} some).1 low
 
-row-within : (line rows : ℕ) → line < rows * 256 * 8 → line / 8 / 4 / 64 < rows
-row-within line rows low =
-    let one : line / 8 < rows * 256 = div-below 8 line (rows * 256) (omega arith) low in
-    let two : line / 8 / 4 < rows * 64 = div-below 4 (line / 8) (rows * 64) (omega arith) (omega (arith, one)) in
-    div-below 64 (line / 8 / 4) rows (omega arith) two
+row-within : (k line rows : ℕ) → 0 < k → line < rows * 256 * k → line / k / 4 / 64 < rows
+row-within k line rows some low =
+    let one : line / k < rows * 256 = div-below k line (rows * 256) some low in
+    let two : line / k / 4 < rows * 64 = div-below 4 (line / k) (rows * 64) (omega arith) (omega (arith, one)) in
+    div-below 64 (line / k / 4) rows (omega arith) two
 
-pub turned-bit : (h : Header) (trace : List TraceLine) (k line device bit : ℕ) → AreInside (shape_of h) trace → slice_get trace (k - 1) ≡ Some (Flip line device bit) → IsBit h (place_of line (shape_of h)) device bit
-turned-bit h trace k line device bit inside there =
-    let i : (line < h.settings.rows * 256 * 8) × (device < 4) × (bit < 136) = subst (λ o. IfSome o (IsInside (shape_of h))) there (inside-at (shape_of h) trace (k - 1) inside) in
+pub turned-bit : (h : Header) (trace : List TraceLine) (k line device bit : ℕ) → IsAccepted h → AreInside (shape_of h) trace → slice_get trace (k - 1) ≡ Some (Flip line device bit) → IsBit h (place_of line (shape_of h)) device bit
+turned-bit h trace k line device bit accepted inside there =
+    let some = some-groups h.version.groups accepted.version.2 in
+    let i : (line < h.settings.rows * 256 * h.version.groups) × (device < 4) × (bit < 136) = subst (λ o. IfSome o (IsInside (shape_of h))) there (inside-at (shape_of h) trace (k - 1) inside) in
     record {
-      inside = record { row = row-within line h.settings.rows i.0; group = mod-lt line (omega arith) };
+      inside = record { row = row-within h.version.groups line h.settings.rows some i.0; group = mod-lt line some };
       of_four = i.1;
       in_word = i.2;
     }

@@ -26,7 +26,7 @@ use Rattle.reports.specs.Window.{window}
 
 -- the header with the bin tiny and 16 rows, and an ECS after each so many refreshes
 abbrev scrubbing : ℕ → Header
-scrubbing every = record { timing = tiny; settings = record { rows = 16; ath = 5; eth = 3; raaimt = 8; raammt = 16; refresh = All; ecs_every = every } }
+scrubbing every = record { timing = tiny; settings = record { rows = 16; ath = 5; eth = 3; raaimt = 8; raammt = 16; refresh = All; ecs_every = every }; version = record { cycle = 4; groups = 8 } }
 
 abbrev header : Header
 header = scrubbing 0

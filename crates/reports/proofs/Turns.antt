@@ -1,5 +1,8 @@
 -- What each turn of a replay keeps.
-use Rattle.std.proofs.Common.{◌≡◌, ℕ, ◌+◌, ◌-◌, ◌<◌, ◌≤◌, ◌⊎◌, inl, inr, ◌&&◌, Bool, true, false, Option, Some, None, List, [], ◌∷◌, ◌++◌, map, length, take, drop, slice_get, refl, sym, ap, ◌∙◌, subst, arith, append_assoc}
+use Rattle.std.proofs.Common.{◌*◌, nat_lt, ◌≡◌, ℕ, ◌+◌, ◌-◌, ◌<◌, ◌≤◌, ◌⊎◌, inl, inr, ◌&&◌, Bool, true, false, Option, Some, None, List, [], ◌∷◌, ◌++◌, map, length, take, drop, slice_get, refl, sym, ap, ◌∙◌, subst, arith, append_assoc}
+use Rattle.command_words.specs.declared.place.Bank.{Bank}
+use Rattle.command_words.specs.Command.{bank_number}
+use Rattle.speed_bin.specs.Marks.{is_bank}
 use Rattle.std.specs.Prelude.{IsTrue, IfSome, nat_lt}
 use Rattle.std.specs.List.{list_all}
 use Rattle.std.proofs.lemmas.Bool.{lt-ltb, ltb-true}
@@ -22,6 +25,7 @@ use Rattle.reports.specs.Runs.{Run, log_of, IsNext, held}
 use Rattle.reports.specs.Barriers.{Serving, servings, with_serving}
 use Rattle.reports.specs.Offered.{asked, offered, rank_of, ranked, controller_steps}
 use Rattle.reports.specs.Sound.{IsSoundPlace, Sound}
+use Rattle.speed_bin.proofs.Tests.{both}
 use Rattle.reports.specs.Window.{up_to_barrier, reach, window, IsAskedFor}
 use Rattle.reports.specs.Underway.{Ahead, Unknown, Next, Ended, MayFollow, IsStopped, IsIssued, IsUnderway, issue}
 use Rattle.reports.proofs.Ready.{held-past}
@@ -31,11 +35,16 @@ use Rattle.reports.proofs.Window.{QueueIsWindow, asked-for, asks-none, reaches}
 
 -- ---- A command is issued
 
+own-group : (h : Header) (bank : Bank) → is_bank h bank ≡ true → bank.group < h.version.groups
+own-group h bank here = let low = ltb-true (bank_number bank) (h.version.groups * 4) here in omega (arith, low)
+
 within-legal : (h : Header) (clock : ℕ) (command : Command) (log : Log) → IsLegal h clock command log → IsWithin (shape_of h) command
-within-legal h clock (Act bank row) log l = (record { group = l.in_range.0.group; address = l.in_range.0.address }, ltb-true row h.settings.rows l.row)
-within-legal h clock (Rd bank column) log l = (record { group = l.in_range.0.group; address = l.in_range.0.address }, l.in_range.1)
-within-legal h clock (Wr bank column) log l = (record { group = l.in_range.0.group; address = l.in_range.0.address }, l.in_range.1)
-within-legal h clock (PrePb bank) log l = record { group = l.in_range.group; address = l.in_range.address }
+within-legal h clock (Act bank row) log l =
+    let p = both (nat_lt row h.settings.rows) (is_bank h bank) l.row in
+    (record { group = own-group h bank p.1; address = l.in_range.0.address }, ltb-true row h.settings.rows p.0)
+within-legal h clock (Rd bank column) log l = (record { group = own-group h bank l.row; address = l.in_range.0.address }, l.in_range.1)
+within-legal h clock (Wr bank column) log l = (record { group = own-group h bank l.row; address = l.in_range.0.address }, l.in_range.1)
+within-legal h clock (PrePb bank) log l = record { group = own-group h bank l.row; address = l.in_range.address }
 within-legal h clock (PreSb address) log l = l.in_range
 within-legal h clock PreAb log l = tt
 within-legal h clock RefAb log l = tt

@@ -105,7 +105,7 @@ pub fn gives_to_a_device()
     ensures turns { (h : Header) (trace : List TraceLine) (run : Run) (number line device bit : ℕ)
         → slice_get trace (number - 1) ≡ Some (Flip line device bit)
         → device_steps h trace (Flips number ∷ run) ≡ Turns (place_of line (shape_of h)) device bit ∷ device_steps h trace run }
-    ensures bit { (h : Header) (trace : List TraceLine) (number line device bit : ℕ) → AreInside (shape_of h) trace
+    ensures bit { (h : Header) (trace : List TraceLine) (number line device bit : ℕ) → IsAccepted h → AreInside (shape_of h) trace
         → slice_get trace (number - 1) ≡ Some (Flip line device bit) → IsBit h (place_of line (shape_of h)) device bit }
 {}
 

@@ -29,6 +29,7 @@ use Rattle.requests.proofs.Turns.{closing, after_closed}
 
 pub after_excuse_lem : (h : Header) (offered : List Request) (log : List Step) (queue : List Waiting) (excused later : ℕ → Bool) → Requested h offered log queue excused → Excuses excused later → Requested h offered log queue later
 after_excuse_lem h offered log queue excused later k more = record {
+  groups = k.groups;
   waits = k.waits;
   few = k.few;
   within = k.within;
@@ -92,14 +93,14 @@ serves_its_line_lem h offered log b open_row w e = its_line (shape_of h) (waitin
 -- ---- What follows
 
 pub queued_lem : (h : Header) (offered : List Request) (log : List Step) (queue : List Waiting) (excused : ℕ → Bool) (at : ℕ) (w : Waiting) → Requested h offered log queue excused → slice_get queue at ≡ Some w → IsQueued h offered log w
-queued_lem h offered log queue excused at w k e = waits_lem h offered log at w k.inside (subst (λ (ws : List Waiting). slice_get ws at ≡ Some w) k.waits e)
+queued_lem h offered log queue excused at w k e = waits_lem h offered log at w k.groups k.inside (subst (λ (ws : List Waiting). slice_get ws at ≡ Some w) k.waits e)
 
 pub serves_lem : (h : Header) (offered : List Request) (log : List Step) (queue : List Waiting) (excused : ℕ → Bool) (kind : Kind) (bank : Bank) (column : ℕ) (id : Option ℕ) → Requested h offered log queue excused → IsBank bank → IsOldestHit queue (bank_number bank) (open_at (bank_number bank) (places log)) kind column id → Serves h offered log kind bank column id
 serves_lem h offered log queue excused kind bank column id k range hit =
     let test = hits (bank_number bank) (open_at (bank_number bank) (places log)) in
     let o : oldest test (waiting h offered log) ≡ Some hit.request = subst (λ (ws : List Waiting). oldest test ws ≡ Some hit.request) k.waits hit.oldest_hit in
     let s = oldest-stands test (waiting h offered log) hit.request o in
-    serves_at h offered log s.index hit.request kind bank column id k.inside k.in_order range s.here o hit.kind_is hit.column_is hit.number
+    serves_at h offered log s.index hit.request kind bank column id k.groups k.inside k.in_order range s.here o hit.kind_is hit.column_is hit.number
 
 pub activations_lem : (h : Header) (offered : List Request) (log : List Step) (queue : List Waiting) (excused : ℕ → Bool) → Requested h offered log queue excused → commands is_act (places log) ≤ length offered
 activations_lem h offered log queue excused k =

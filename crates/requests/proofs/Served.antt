@@ -1,7 +1,7 @@
 -- What a waiting request is, and which line a column serves.
-use Rattle.std.proofs.Common.{◌≡◌, ◌∙◌, ℕ, zero, suc, ◌+◌, ◌-◌, ◌*◌, ◌/◌, ◌%◌, ◌<◌, not, Bool, true, false, cond, Option, Some, None, List, [], ◌∷◌, length, slice_get, refl, sym, ap, subst, arith, eqb-true}
+use Rattle.std.proofs.Common.{◌≡◌, ◌∙◌, ℕ, zero, suc, ◌+◌, ◌-◌, ◌*◌, ◌/◌, ◌%◌, ◌<◌, not, Bool, true, false, cond, Option, Some, None, List, [], ◌∷◌, length, slice_get, refl, sym, ap, subst, arith, eqb-true, inl, inr}
 use Rattle.command_words.specs.Command.{bank_number, IsBank}
-use Rattle.command_words.specs.Geometry.{Shape, lines_of}
+use Rattle.command_words.specs.Geometry.{Shape, IsGroups, lines_of}
 use Rattle.command_words.specs.Place.{place_of, IsInside}
 use Rattle.command_words.specs.declared.place.Bank.{Bank}
 use Rattle.command_words.specs.declared.geometry.Place.{Place}
@@ -24,21 +24,42 @@ use Rattle.requests.proofs.Serving.{served_before}
 
 -- ---- Numbers of places
 
--- a line's number is made of its parts
-line_back : (n g a r c : ℕ) → g ≡ n % 8 → a ≡ n / 8 % 4 → r ≡ n / 8 / 4 / 64 → c ≡ n / 8 / 4 % 64 → ((r * 64 + c) * 4 + a) * 8 + g ≡ n
-line_back n g a r c p q s t = omega (arith, p, q, s, t)
+-- the parts of a line's number, with so many groups
+record Parts (k : ℕ) : Type 0 where
+  -- a line's number is made of its parts
+  line_back : (n g a r c : ℕ) → g ≡ n % k → a ≡ n / k % 4 → r ≡ n / k / 4 / 64 → c ≡ n / k / 4 % 64 → ((r * 64 + c) * 4 + a) * k + g ≡ n
+  row_inside : (n rows : ℕ) → n < rows * 256 * k → n / k / 4 / 64 < rows
+  bank_inside : (n : ℕ) → n % k * 4 + n / k % 4 < 32
+  bank_own : (n : ℕ) → n % k * 4 + n / k % 4 < k * 4
+  address_inside : (n : ℕ) → n / k % 4 < 4
+  group_inside : (n : ℕ) → n % k < k
+  group_few : (n : ℕ) → n % k < 8
 
-row_inside : (n rows : ℕ) → n < rows * 256 * 8 → n / 8 / 4 / 64 < rows
-row_inside n rows h = omega (arith, h)
+of_four : Parts 4
+of_four = record {
+  line_back = λ n g a r c p q s t. omega (arith, p, q, s, t);
+  row_inside = λ n rows h. omega (arith, h);
+  bank_inside = λ n. omega arith;
+  bank_own = λ n. omega arith;
+  address_inside = λ n. omega arith;
+  group_inside = λ n. omega arith;
+  group_few = λ n. omega arith;
+}
 
-bank_inside : (n : ℕ) → n % 8 * 4 + n / 8 % 4 < 32
-bank_inside n = omega arith
+of_eight : Parts 8
+of_eight = record {
+  line_back = λ n g a r c p q s t. omega (arith, p, q, s, t);
+  row_inside = λ n rows h. omega (arith, h);
+  bank_inside = λ n. omega arith;
+  bank_own = λ n. omega arith;
+  address_inside = λ n. omega arith;
+  group_inside = λ n. omega arith;
+  group_few = λ n. omega arith;
+}
 
-address_inside : (n : ℕ) → n / 8 % 4 < 4
-address_inside n = omega arith
-
-group_inside : (n : ℕ) → n % 8 < 8
-group_inside n = omega arith
+parts : (k : ℕ) → IsGroups k → Parts k
+parts k (inl e) = subst Parts (sym e) of_four
+parts k (inr e) = subst Parts (sym e) of_eight
 
 groups_same : (g a k b : ℕ) → a < 4 → b < 4 → g * 4 + a ≡ k * 4 + b → g ≡ k
 groups_same g a k b p q e = omega (arith, p, q, e)
@@ -85,8 +106,9 @@ inside-at h [] at r i e = cc
 inside-at h (q ∷ rs) zero r i e = let k : q ≡ r = cc in subst (λ (x : Request). x.line < lines_of (shape_of h)) k i.0
 inside-at h (q ∷ rs) (suc at) r i e = inside-at h rs at r i.1 e
 
-pub waits_lem : (h : Header) (offered : List Request) (log : List Step) (at : ℕ) (w : Waiting) → AreInside h offered → slice_get (waiting h offered log) at ≡ Some w → IsQueued h offered log w
-waits_lem h offered log at w inside here =
+pub waits_lem : (h : Header) (offered : List Request) (log : List Step) (at : ℕ) (w : Waiting) → IsGroups h.version.groups → AreInside h offered → slice_get (waiting h offered log) at ≡ Some w → IsQueued h offered log w
+waits_lem h offered log at w groups inside here =
+    let p = parts h.version.groups groups in
     let rise = rising-at 1 (length offered + 1) (waiting h offered log) at w (rising-waiting h offered log) here in
     let s = filtered-stands (λ v. not (is_served v.id log)) (numbered h 1 offered) at w here in
     let n = numbered-at h 1 offered s.index w s.here in
@@ -98,8 +120,9 @@ waits_lem h offered log at w inside here =
       offers = subst (λ (i : ℕ). slice_get offered i ≡ Some w.request) index n.offers;
       unserved = unserved h offered log at w here;
       placed = n.placed;
-      inside = subst (λ (p : Place). IsInside p (shape_of h)) (sym n.placed) (record { row = row_inside w.request.line h.settings.rows low; group = group_inside w.request.line });
-      bank = subst (λ (p : Place). bank_number p.bank < 32) (sym n.placed) (bank_inside w.request.line);
+      inside = subst (λ (p : Place). IsInside p (shape_of h)) (sym n.placed) (record { row = p.row_inside w.request.line h.settings.rows low; group = p.group_inside w.request.line });
+      bank = subst (λ (p : Place). bank_number p.bank < 32) (sym n.placed) (p.bank_inside w.request.line);
+      own = subst (λ (q : Place). bank_number q.bank < h.version.groups * 4) (sym n.placed) (p.bank_own w.request.line);
     }
 
 -- ---- What a column serves
@@ -117,18 +140,20 @@ row_is None row e = cc
 row_is (Some r) row e = ap (λ (n : ℕ). Some n) (eqb-true r row e)
 
 -- the request at its place in the list, as the oldest hit of its bank
-pub serves_at : (h : Header) (offered : List Request) (log : List Step) (at : ℕ) (w : Waiting) (kind : Kind) (bank : Bank) (column : ℕ) (id : Option ℕ) → AreInside h offered → IsInOrder h offered log → IsBank bank → slice_get (waiting h offered log) at ≡ Some w → oldest (hits (bank_number bank) (open_at (bank_number bank) (places log))) (waiting h offered log) ≡ Some w → w.request.kind ≡ kind → w.place.column ≡ column → id ≡ Some w.id → Serves h offered log kind bank column id
-serves_at h offered log at w kind bank column id inside order range here hit kind_is column_is is_id =
+pub serves_at : (h : Header) (offered : List Request) (log : List Step) (at : ℕ) (w : Waiting) (kind : Kind) (bank : Bank) (column : ℕ) (id : Option ℕ) → IsGroups h.version.groups → AreInside h offered → IsInOrder h offered log → IsBank bank → slice_get (waiting h offered log) at ≡ Some w → oldest (hits (bank_number bank) (open_at (bank_number bank) (places log))) (waiting h offered log) ≡ Some w → w.request.kind ≡ kind → w.place.column ≡ column → id ≡ Some w.id → Serves h offered log kind bank column id
+serves_at h offered log at w kind bank column id groups inside order range here hit kind_is column_is is_id =
     let o = open_at (bank_number bank) (places log) in
-    let q = waits_lem h offered log at w inside here in
+    let p = parts h.version.groups groups in
+    let k = h.version.groups in
+    let q = waits_lem h offered log at w groups inside here in
     let meets = both (in_bank (bank_number bank) w) (is_row o w.place.row) (holds (hits (bank_number bank) o) (waiting h offered log) w hit) in
     let same : bank_number w.place.bank ≡ bank_number bank = eqb-true _ _ meets.0 in
     let n = w.request.line in
-    let group : w.place.bank.group ≡ n % 8 = ap (λ (p : Place). p.bank.group) q.placed in
-    let address : w.place.bank.address ≡ n / 8 % 4 = ap (λ (p : Place). p.bank.address) q.placed in
-    let row : w.place.row ≡ n / 8 / 4 / 64 = ap (λ (p : Place). p.row) q.placed in
-    let place_column : w.place.column ≡ n / 8 / 4 % 64 = ap (λ (p : Place). p.column) q.placed in
-    let low : w.place.bank.address < 4 = subst (λ (a : ℕ). a < 4) (sym address) (address_inside n) in
+    let group : w.place.bank.group ≡ n % k = ap (λ (p : Place). p.bank.group) q.placed in
+    let address : w.place.bank.address ≡ n / k % 4 = ap (λ (p : Place). p.bank.address) q.placed in
+    let row : w.place.row ≡ n / k / 4 / 64 = ap (λ (p : Place). p.row) q.placed in
+    let place_column : w.place.column ≡ n / k / 4 % 64 = ap (λ (p : Place). p.column) q.placed in
+    let low : w.place.bank.address < 4 = subst (λ (a : ℕ). a < 4) (sym address) (p.address_inside n) in
     let g = groups_same bank.group bank.address w.place.bank.group w.place.bank.address range.address low (sym same) in
     let a = addresses_same bank.group bank.address w.place.bank.group w.place.bank.address range.address low (sym same) in
     record {
@@ -141,26 +166,26 @@ serves_at h offered log at w kind bank column id inside order range here hit kin
       kind_is = kind_is;
       row = w.place.row;
       is_open = row_is o w.place.row meets.1;
-      line_is = line_back n bank.group bank.address w.place.row column (g ∙ group) (a ∙ address) row (sym column_is ∙ place_column);
+      line_is = p.line_back n bank.group bank.address w.place.row column (g ∙ group) (a ∙ address) row (sym column_is ∙ place_column);
       next = served_before h offered log at w order here (its_line (shape_of h) (waiting h offered log) (bank_number bank) o w (placed-waiting h offered log) hit);
     }
 
 -- the bank of a place is in range
-bank_of_line : (g : Shape) (w : Waiting) → g.groups ≡ 8 → w.place ≡ place_of w.request.line g → IsBank w.place.bank
-bank_of_line g w e p = subst (λ (q : Place). IsBank q.bank) (sym p) (record { group = subst (λ (n : ℕ). w.request.line % n < 8) (sym e) (group_inside w.request.line); address = subst (λ (n : ℕ). w.request.line / n % 4 < 4) (sym e) (address_inside w.request.line) })
+bank_of_line : (g : Shape) (w : Waiting) → IsGroups g.groups → w.place ≡ place_of w.request.line g → IsBank w.place.bank
+bank_of_line g w e p = subst (λ (q : Place). IsBank q.bank) (sym p) (record { group = (parts g.groups e).group_few w.request.line; address = (parts g.groups e).address_inside w.request.line })
 
-own_range : (h : Header) (offered : List Request) (log : List Step) (at : ℕ) (w : Waiting) → AreInside h offered → slice_get (waiting h offered log) at ≡ Some w → IsBank w.place.bank
-own_range h offered log at w inside here = let q = waits_lem h offered log at w inside here in bank_of_line (shape_of h) w refl q.placed
+own_range : (h : Header) (offered : List Request) (log : List Step) (at : ℕ) (w : Waiting) → IsGroups h.version.groups → AreInside h offered → slice_get (waiting h offered log) at ≡ Some w → IsBank w.place.bank
+own_range h offered log at w groups inside here = let q = waits_lem h offered log at w groups inside here in bank_of_line (shape_of h) w groups q.placed
 
 own_hit : (b : ℕ) (log : Log) (ws : List Waiting) (w : Waiting) → oldest (hits b (open_at b log)) ws ≡ Some w → oldest (hits (bank_number w.place.bank) (open_at (bank_number w.place.bank) log)) ws ≡ Some w
 own_hit b log ws w hit =
     let own : bank_number w.place.bank ≡ b = eqb-true _ _ (both (in_bank b w) (is_row (open_at b log) w.place.row) (holds (hits b (open_at b log)) ws w hit)).0 in
     subst (λ (i : ℕ). oldest (hits i (open_at i log)) ws ≡ Some w) (sym own) hit
 
-pub serving_at : (h : Header) (offered : List Request) (log : List Step) (at b : ℕ) (w : Waiting) (command : Command) → AreInside h offered → IsInOrder h offered log → slice_get (waiting h offered log) at ≡ Some w → oldest (hits b (open_at b (places log))) (waiting h offered log) ≡ Some w → command ≡ column_for w.request.kind w.place → IsServing h offered log command (Some w.id)
-serving_at h offered log at b w command inside order here hit is =
+pub serving_at : (h : Header) (offered : List Request) (log : List Step) (at b : ℕ) (w : Waiting) (command : Command) → IsGroups h.version.groups → AreInside h offered → IsInOrder h offered log → slice_get (waiting h offered log) at ≡ Some w → oldest (hits b (open_at b (places log))) (waiting h offered log) ≡ Some w → command ≡ column_for w.request.kind w.place → IsServing h offered log command (Some w.id)
+serving_at h offered log at b w command groups inside order here hit is =
     subst (λ (c : Command). IsServing h offered log c (Some w.id)) (sym is) (go w.request.kind refl)
   where
     go : (kind : Kind) → w.request.kind ≡ kind → IsServing h offered log (column_for kind w.place) (Some w.id)
-    go Read e = serves_at h offered log at w Read w.place.bank w.place.column (Some w.id) inside order (own_range h offered log at w inside here) here (own_hit b (places log) (waiting h offered log) w hit) e refl refl
-    go Write e = serves_at h offered log at w Write w.place.bank w.place.column (Some w.id) inside order (own_range h offered log at w inside here) here (own_hit b (places log) (waiting h offered log) w hit) e refl refl
+    go Read e = serves_at h offered log at w Read w.place.bank w.place.column (Some w.id) groups inside order (own_range h offered log at w groups inside here) here (own_hit b (places log) (waiting h offered log) w hit) e refl refl
+    go Write e = serves_at h offered log at w Write w.place.bank w.place.column (Some w.id) groups inside order (own_range h offered log at w groups inside here) here (own_hit b (places log) (waiting h offered log) w hit) e refl refl

@@ -20,6 +20,7 @@ use Rattle.requests.specs.Queue.{Step, places, waiting, waiting_as, shape_of, sp
 use Rattle.requests.specs.Choice.{IsOldestRow, column_for}
 use Rattle.requests.specs.Owed.{is_column, owed_count, Promised, SparesOwed}
 use Rattle.requests.specs.Page.{is_managing, Another, IsPaged, Excuses}
+use Rattle.command_words.specs.Geometry.{IsGroups}
 use Rattle.requests.specs.Requested.{Requested}
 use Rattle.requests.proofs.Oldest.{holds}
 use Rattle.requests.proofs.Queue.{Rising, rising-waiting, waiting-offer, waiting-serve, waiting-other, known-offer, known-serve, known-other, length-remove, span-remove, span-offer, inside-offer}
@@ -36,8 +37,9 @@ use Rattle.requests.proofs.CommandKinds.{column_of, column_is_column, column_not
 not_below : (n : ℕ) → n ≤ 0 → n ≤ 0
 not_below n h = h
 
-pub starts : (h : Header) (excused : ℕ → Bool) → Requested h [] [] [] excused
-starts h excused = record {
+pub starts : (h : Header) (excused : ℕ → Bool) → IsGroups h.version.groups → Requested h [] [] [] excused
+starts h excused groups = record {
+  groups = groups;
   waits = refl;
   few = omega arith;
   within = omega arith;
@@ -67,6 +69,7 @@ after_offer h offered log queue excused r k low room =
     let few : length queue < 32 = strict (length queue) 32 k.few (λ e. room (inl e)) in
     let within : span (length offered) queue < 64 = strict (span (length offered) queue) 64 k.within (λ e. room (inr e)) in
     record {
+      groups = k.groups;
       waits = ap (λ (ws : List Waiting). ws ++ w ∷ []) k.waits ∙ sym (waiting-offer h offered log r (length offered + 1) refl new);
       few = omega (arith, few, longer);
       within = subst (λ (n : ℕ). span n (queue ++ w ∷ []) ≤ 64) (sym more) (span-offer (length offered) (length offered + 1) queue w (rising-queue h offered log queue k.waits) refl within);
@@ -119,11 +122,12 @@ after_column h offered log queue excused later clock at b command w k is here hi
     let owes = owed_column command w.place.bank clock (places log) c in
     let nothing = column_needs_nothing command column in
     record {
+      groups = k.groups;
       waits = ap (λ (ws : List Waiting). remove ws at) k.waits ∙ sym (waiting-serve h offered log at w step here_in refl);
       few = (let f = k.few in omega (arith, f, shorter));
       within = le_trans (span-remove (length offered) queue at w (rising-queue h offered log queue k.waits) here) k.within;
       inside = k.inside;
-      serving = (k.serving, serving_at h offered log at b w command k.inside k.in_order here_in hit_in is);
+      serving = (k.serving, serving_at h offered log at b w command k.groups k.inside k.in_order here_in hit_in is);
       known = known-serve h offered log at w step k.known here_in refl;
       once = once-serve h offered log at w step here_in refl k.once;
       in_order = in_order-serve h offered log at w step here_in (its_line (shape_of h) (waiting h offered log) b (open_at b (places log)) w (placed-waiting h offered log) hit_in) refl k.in_order;
@@ -150,6 +154,7 @@ unserving : (h : Header) (offered : List Request) (log : List Step) (queue : Lis
 unserving h offered log queue excused later place k no_column promised repaid paged page =
     let step : Step = record { issued = place; id = None } in
     record {
+      groups = k.groups;
       waits = k.waits ∙ sym (waiting-other h offered log step refl);
       few = k.few;
       within = k.within;

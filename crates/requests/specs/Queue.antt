@@ -31,9 +31,9 @@ is_served n (step ∷ log) = is_number n step.id || is_served n log
 
 -- ---- The requests with their numbers and places
 
--- the shape of the header's subchannel: its rows, and 8 bank groups
+-- the shape of the header's subchannel: its rows, and the bank groups of its version
 abbrev pub shape_of : Header → Shape
-shape_of h = record { rows = h.settings.rows; groups = 8 }
+shape_of h = record { rows = h.settings.rows; groups = h.version.groups }
 
 -- each requested line is one of the header's
 abbrev pub AreInside : Header → List Request → Type 0

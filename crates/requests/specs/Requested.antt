@@ -1,6 +1,7 @@
 -- What a controller keeps of its requests, from turn to turn.
-use Rattle.std.specs.Prelude.{ℕ, ◌+◌, ◌-◌, ◌<◌, ◌≤◌, ◌≡◌, Bool, true, false, List, length, slice_get, Some}
+use Rattle.std.specs.Prelude.{ℕ, ◌+◌, ◌-◌, ◌*◌, ◌<◌, ◌≤◌, ◌≡◌, Bool, true, false, List, length, slice_get, Some}
 use Rattle.command_words.specs.Command.{bank_number}
+use Rattle.command_words.specs.Geometry.{IsGroups}
 use Rattle.command_words.specs.Place.{place_of, IsInside}
 use Rattle.speed_bin.specs.Counts.{commands}
 use Rattle.speed_bin.specs.Kinds.{is_act}
@@ -16,6 +17,8 @@ use Rattle.requests.specs.Page.{IsPaged}
 -- the queue stands for the offered requests and the log, where the banks that are excused may be closed for a task or
 -- for good
 pub record Requested (h : Header) (offered : List Request) (log : List Step) (queue : List Waiting) (excused : ℕ → Bool) : Type 0 where
+  -- the header has 4 or 8 bank groups
+  pub groups : IsGroups h.version.groups
   -- the queue has the requests that wait, at most 32, of the last 64
   pub waits : queue ≡ waiting h offered log
   pub few : length queue ≤ 32
@@ -43,3 +46,4 @@ pub record IsQueued (h : Header) (offered : List Request) (log : List Step) (w :
   pub placed : w.place ≡ place_of w.request.line (shape_of h)
   pub inside : IsInside w.place (shape_of h)
   pub bank : bank_number w.place.bank < 32
+  pub own : bank_number w.place.bank < h.version.groups * 4

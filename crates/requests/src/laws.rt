@@ -3,7 +3,7 @@
 ghost use Rattle.std.specs.Prelude.{◌≡◌, ℕ, ◌+◌, ◌<◌, ◌≤◌, ◌⊎◌, ◌++◌, Bool, false, true, None, Some, Option, IsTrue, List, [], ◌∷◌, length, slice_get};
 ghost use Rattle.std.specs.List.{remove};
 ghost use Rattle.command_words.specs.Command.{bank_number, covers, IsBank};
-ghost use Rattle.command_words.specs.Geometry.{lines_of};
+ghost use Rattle.command_words.specs.Geometry.{IsGroups, lines_of};
 ghost use Rattle.command_words.specs.declared.place.Bank.{Bank};
 ghost use Rattle.command_words.specs.declared.command.Command.{Command};
 ghost use Rattle.command_words.specs.declared.command.Command.TheVariants.{Act, PrePb, Mrw};
@@ -28,7 +28,7 @@ ghost use Rattle.requests.specs.Requested.{Requested, IsQueued};
 
 /// Before the first offer and the first command.
 pub fn starts()
-    ensures kept { (h : Header) (excused : ℕ → Bool) → Requested h [] [] [] excused }
+    ensures kept { (h : Header) (excused : ℕ → Bool) → IsGroups h.version.groups → Requested h [] [] [] excused }
 {}
 
 /// Other banks are excused: a task is set, or the end is announced.

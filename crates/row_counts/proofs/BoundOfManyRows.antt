@@ -3,6 +3,7 @@ use Rattle.std.proofs.Common.{◌≡◌, refl}
 use Rattle.speed_bin.specs.declared.settings.RefreshMode.TheVariants.{All}
 use Rattle.speed_bin.specs.declared.header.Header.{Header}
 use Rattle.speed_bin.specs.Timing.{prac_4800}
+use Rattle.speed_bin.specs.Version.{plain}
 use Rattle.speed_bin.specs.Height.{height_of}
 use Rattle.speed_bin.specs.Header.{bound, spare}
 
@@ -18,6 +19,7 @@ header = record {
     refresh = All;
     ecs_every = 8;
   };
+  version = plain;
 }
 
 bound_is : bound header ≡ 105

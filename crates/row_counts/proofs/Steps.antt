@@ -1,5 +1,5 @@
 -- Counters that stand for a bank in a log stand for it one place later.
-use Rattle.std.proofs.Common.{◌≡◌, ◌∙◌, ℕ, suc, ◌+◌, ◌^◌, ◌<◌, ◌≤◌, true, false, nat_le, refl, arith, Option, Some, None, List, [], ◌∷◌, length, length-set}
+use Rattle.std.proofs.Common.{◌-◌, ◌≡◌, ◌∙◌, ℕ, suc, ◌+◌, ◌^◌, ◌<◌, ◌≤◌, true, false, nat_le, refl, arith, Option, Some, None, List, [], ◌∷◌, length, length-set}
 use Rattle.std.proofs.lemmas.List.{length-replicate}
 use Rattle.std.proofs.Math.Logic.{∥∥₁_elim, ∥∥₁_prop}
 use native.Mathlib.Bridge.{le_prop}
@@ -12,7 +12,9 @@ use Rattle.speed_bin.specs.declared.settings.Settings.{Settings}
 use Rattle.speed_bin.specs.Kinds.{Effect, Opens, Closes, Manages, Refreshes, Leaves, effect}
 use Rattle.speed_bin.specs.Log.{Log, open_at}
 use Rattle.speed_bin.specs.Counters.{Counter, counters, counters_after, tracked, count_of, mitigated, cnt, after_mitigation, after_close}
+use Rattle.speed_bin.specs.Header.{bound, spare}
 use Rattle.speed_bin.specs.Height.{height_of}
+use Rattle.speed_bin.specs.Version.{Figures, IsVersion}
 use Rattle.std.proofs.lemmas.Bool.Decides.{nat_tests}
 use Rattle.row_counts.specs.Held.{Held, MayClose, MayMitigate, HasRow, IsOneMore}
 use Rattle.row_counts.specs.Standing.{StandsFor}
@@ -38,12 +40,18 @@ pub long : (h : Header) (b : ℕ) (log : Log) → length (counters h b log) ≡ 
 long h b [] = length-replicate _ _
 long h b (place ∷ log) = long_after h (suc (length log)) (effect b place.command) (open_at b log) (counters h b log) ∙ long h b log
 
-pub stands_fresh : (s : Settings) (it : Held) (h : Header) (b : ℕ) → it.ath ≡ s.ath → it.eth ≡ s.eth → it.order.rows ≡ s.rows → it.changes ≡ 0 → OrderStandsFor it.order (rising s.rows) → h.settings ≡ s → StandsFor it h b []
+-- the levels that counters are made with are one more than the bound
+pub levels_of : (s : Settings) (v : Figures) (h : Header) (levels : ℕ) → IsVersion v → levels ≡ s.ath + height_of (v.cycle - 1) s.rows + v.cycle → h.settings ≡ s → h.version ≡ v → levels ≡ bound h + 1
+unfolding spare
+levels_of s v h levels ok is settings version = rw (settings, version) (let low = ok.0 in omega (arith, low, is))
+
+pub stands_fresh : (s : Settings) (it : Held) (h : Header) (b : ℕ) → it.ath ≡ s.ath → it.eth ≡ s.eth → it.order.rows ≡ s.rows → it.order.levels ≡ bound h + 1 → it.changes ≡ 0 → OrderStandsFor it.order (rising s.rows) → h.settings ≡ s → StandsFor it h b []
 unfolding StandsFor
-stands_fresh s it h b ath eth rows none stands same = record {
+stands_fresh s it h b ath eth rows levels none stands same = record {
   ath = rw same ath;
   eth = rw same eth;
   rows = rw same rows;
+  levels = levels;
   list = rising s.rows;
   stands = stands;
   counters = rw same (list_fresh s.rows);
@@ -94,11 +102,11 @@ pub may_mitigate : (it : Held) (h : Header) (b : ℕ) (log : Log) → StandsFor 
 unfolding StandsFor
 may_mitigate it h b log s short = let few = s.changes in omega arith
 
-pub may_close : (it : Held) (h : Header) (b row : ℕ) (log : Log) → StandsFor it h b log → row < h.settings.rows → cnt h b row log < h.settings.ath + height_of 3 h.settings.rows + 3 → length log < 2 ^ 48 → MayClose it row
+pub may_close : (it : Held) (h : Header) (b row : ℕ) (log : Log) → StandsFor it h b log → row < h.settings.rows → cnt h b row log < bound h → length log < 2 ^ 48 → MayClose it row
 unfolding StandsFor
 may_close it h b row log s low below short = record {
   inside = rw s.rows low;
-  below = ∣ (s.list, s.stands, rw (count, s.rows, s.ath) below) ∣₁;
+  below = ∣ (s.list, s.stands, let levels = s.levels in omega (arith, levels, count, below)) ∣₁;
   changes = may_mitigate it h b log s short;
 }
   where
@@ -139,6 +147,7 @@ stands_close it new h b row clock command log more low raised s e opened = recor
   ath = more.ath ∙ s.ath;
   eth = more.eth ∙ s.eth;
   rows = more.rows ∙ s.rows;
+  levels = more.levels ∙ s.levels;
   list = changed row (count_in s.list row + 1) s.list;
   stands = raised s.list s.stands;
   counters = rw (e, opened, ← count) (list_changed (counters h b log) (length log) row (count_in s.list row + 1) s.list some s.counters);
@@ -159,6 +168,7 @@ stands_mitigate it new h b row clock command log more low cleared took s e = rec
   ath = more.ath ∙ s.ath;
   eth = more.eth ∙ s.eth;
   rows = more.rows ∙ s.rows;
+  levels = more.levels ∙ s.levels;
   list = changed row 0 s.list;
   stands = cleared s.list s.stands;
   counters = rw (e, ← took) (list_changed (counters h b log) (length log) row 0 s.list (let rows = s.rows in let l = long h b log in omega arith) s.counters);
@@ -172,6 +182,7 @@ stands_same it h b clock command log s same = record {
   ath = s.ath;
   eth = s.eth;
   rows = s.rows;
+  levels = s.levels;
   list = s.list;
   stands = s.stands;
   counters = rw same (list_later (counters h b log) (length log) (suc (length log)) s.list (omega arith) s.counters);

@@ -2,7 +2,6 @@
 use Rattle.std.specs.Prelude.{◌≡◌, ℕ, ◌+◌, ◌<◌, ◌≤◌, ◌^◌, List}
 use Rattle.row_order.specs.Entries.{Entry, count_in}
 use Rattle.row_order.specs.Standing.{Held as Order, no_order, StandsFor as OrderStandsFor}
-use Rattle.speed_bin.specs.Height.{height_of}
 
 -- the two thresholds, the rows with their counts in the order of their last change, and how many closings and
 -- mitigations there were
@@ -16,11 +15,10 @@ pub record Held : Type 0 where
 abbrev pub HasRow : Held → ℕ → Type 0
 HasRow it row = row < it.order.rows
 
--- one more closing of the row can be counted: it is one of the bank's, and its count is below the greatest that the
--- rules of a log let it reach
+-- one more closing of the row can be counted: it is one of the bank's, and there is a level above its count
 pub record MayClose (it : Held) (row : ℕ) : Type 0 where
   pub inside : row < it.order.rows
-  pub below : ∥ ((es : List Entry) × (OrderStandsFor it.order es) × (count_in es row < it.ath + height_of 3 it.order.rows + 3)) ∥₁
+  pub below : ∥ ((es : List Entry) × (OrderStandsFor it.order es) × (count_in es row + 1 < it.order.levels)) ∥₁
   pub changes : it.changes < 2 ^ 48
 
 -- one more mitigation can be counted
@@ -41,10 +39,10 @@ pub record IsOneMore (it new : Held) : Type 0 where
   pub ath : new.ath ≡ it.ath
   pub eth : new.eth ≡ it.eth
   pub rows : new.order.rows ≡ it.order.rows
+  pub levels : new.order.levels ≡ it.order.levels
   pub changes : new.changes ≡ it.changes + 1
 
--- the rows are 1 to 65,536, ATH is at most 1,023, and the counts have the levels that the rules of a log let them reach
+-- the rows are 1 to 65,536, and ATH is at most 1,023
 pub record IsBank (it : Held) : Type 0 where
   pub rows : (1 ≤ it.order.rows) × (it.order.rows ≤ 65536)
   pub ath : it.ath ≤ 1023
-  pub levels : it.order.levels ≡ it.ath + height_of 3 it.order.rows + 4

@@ -1,8 +1,9 @@
 -- What a bank's row counters say of a log.
-use Rattle.std.specs.Prelude.{◌≡◌, ◌≤◌, ◌<◌, ◌⊎◌, ℕ, nat_lt, if◌then◌else◌, List, [], ◌∷◌, length, slice_index_or}
+use Rattle.std.specs.Prelude.{◌≡◌, ◌≤◌, ◌<◌, ◌+◌, ◌⊎◌, ℕ, nat_lt, if◌then◌else◌, List, [], ◌∷◌, length, slice_index_or}
 use Rattle.row_order.specs.Entries.{Entry, times}
 use Rattle.row_order.specs.Standing.{StandsFor as OrderStandsFor}
 use Rattle.speed_bin.specs.declared.header.Header.{Header}
+use Rattle.speed_bin.specs.Header.{bound}
 use Rattle.speed_bin.specs.Log.{Log}
 use Rattle.speed_bin.specs.Counters.{Counter, counters, count_of}
 use Rattle.row_counts.specs.Held.{Held}
@@ -32,11 +33,12 @@ pub record IsListOf (cs : List Counter) (last : ℕ) (es : List Entry) : Type 0 
   pub order : IsInOrder cs es
   pub stamps : (row : ℕ) → stamp_of cs row ≤ last
 
--- the thresholds and the rows are the header's, and the row order stands for a list of the bank's counters in the log
+-- the thresholds, the rows and the levels are the header's, and the row order stands for a list of the bank's counters in the log
 pub record Keeps (it : Held) (h : Header) (b : ℕ) (log : Log) : Type 0 where
   pub ath : it.ath ≡ h.settings.ath
   pub eth : it.eth ≡ h.settings.eth
   pub rows : it.order.rows ≡ h.settings.rows
+  pub levels : it.order.levels ≡ bound h + 1
   pub list : List Entry
   pub stands : OrderStandsFor it.order list
   pub counters : IsListOf (counters h b log) (length log) list

@@ -1,5 +1,5 @@
 //! The counters of the rows of one bank.
-ghost use Rattle.std.specs.Prelude.{ℕ, [], ◌∷◌, Some, ◌≡◌, ◌<◌, ◌≤◌, ◌+◌, ◌^◌, nat_le, IfOk, IfSome, IfNone};
+ghost use Rattle.std.specs.Prelude.{ℕ, [], ◌∷◌, Some, suc, ◌≡◌, ◌<◌, ◌≤◌, ◌+◌, ◌-◌, ◌^◌, nat_le, IfOk, IfSome, IfNone};
 ghost use Rattle.command_words.specs.declared.command.Command.{Command as AnyCommand};
 ghost use Rattle.speed_bin.specs.Counters.{cnt, count_of, counters as counters_of, tracked as tracked_in, mitigated};
 ghost use Rattle.speed_bin.specs.Header.{IsSettings};
@@ -14,7 +14,7 @@ use crate::height;
 use command_words::Row;
 use ddr_io::OutOfMemory;
 use row_order::{RowOrder, stands};
-use speed_bin::Settings;
+use speed_bin::{Settings, Version};
 use std::alloc::Global;
 use std::marker::Model;
 
@@ -40,14 +40,20 @@ impl Model for BankCounts {
 }
 
 impl BankCounts {
-    /// Every counter is 0. The settings are in the header's ranges, ATH is at least 5, and ETH at most ATH.
-    pub fn new(alloc: Global, settings: &Settings) -> Result<BankCounts, OutOfMemory>
+    /// Every counter is 0. The settings are in the header's ranges, ATH is above the version's cycle, and ETH at most ATH.
+    pub fn new(
+        alloc: Global,
+        settings: &Settings,
+        version: Version,
+    ) -> Result<BankCounts, OutOfMemory>
         requires ranges { IsSettings settings.now }
-        requires thresholds { (5 ≤ settings.now.ath) × (settings.now.eth ≤ settings.now.ath) }
+        requires thresholds { (suc version.cycle ≤ settings.now.ath) × (settings.now.eth ≤ settings.now.ath) }
         ensures sizes { IfOk result (λ counts. (counts.ath ≡ settings.now.ath) × (counts.order.rows ≡ settings.now.rows) × (counts.changes ≡ 0)) }
-        ensures log { IfOk result (λ counts. (h : AnyHeader) (b : ℕ) → h.settings ≡ settings.now → StandsFor counts h b []) }
+        ensures levels { IfOk result (λ counts. counts.order.levels ≡ settings.now.ath + height_of (version.cycle - 1) settings.now.rows + version.cycle) }
+        ensures log { IfOk result (λ counts. (h : AnyHeader) (b : ℕ) → h.settings ≡ settings.now → h.version ≡ version → StandsFor counts h b []) }
     {
-        let levels = settings.ath + height(settings.rows) + 4;
+        let cycle = version.cycle();
+        let levels = settings.ath + height(settings.rows, cycle) + cycle;
         let order = RowOrder::new(alloc, settings.rows, levels)?;
         Ok(BankCounts {
             ath: settings.ath,
@@ -58,7 +64,7 @@ impl BankCounts {
     }
 
     /// One counted activation: the row was closed. The row is below the bank's rows, its count below
-    /// `ath + height(rows) + 3`, and there were fewer than 2^48 closings and mitigations.
+    /// `ath + height(rows, cycle) + cycle - 1`, and there were fewer than 2^48 closings and mitigations.
     pub fn close(&mut self, row: Row)
         requires { MayClose self.old row }
         ensures kept { IsOneMore self.old self.new }
@@ -73,7 +79,7 @@ impl BankCounts {
     /// How often the row was closed since its last mitigation. The row is below the bank's rows.
     pub fn count(&self, row: Row) -> u32
         requires { HasRow self.now row }
-        ensures may_close { result < self.now.ath + height_of 3 self.now.order.rows + 3 → self.now.changes < 2 ^ 48 → MayClose self.now row }
+        ensures may_close { result + 1 < self.now.order.levels → self.now.changes < 2 ^ 48 → MayClose self.now row }
         ensures log { (h : AnyHeader) (b : ℕ) (log : Log) → StandsFor self.now h b log → result ≡ cnt h b row log }
     {
         stands(&self.order);

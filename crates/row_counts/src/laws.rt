@@ -3,7 +3,7 @@ ghost use Rattle.std.specs.Prelude.{ℕ, ◌∷◌, ◌≡◌, ◌<◌, ◌+◌,
 ghost use Rattle.command_words.specs.declared.command.Command.{Command};
 ghost use Rattle.speed_bin.specs.declared.header.Header.{Header};
 ghost use Rattle.speed_bin.specs.Counters.{cnt, counters};
-ghost use Rattle.speed_bin.specs.Height.{height_of};
+ghost use Rattle.speed_bin.specs.Header.{bound};
 ghost use Rattle.speed_bin.specs.Log.{Log};
 ghost use Rattle.row_counts.specs.Held.{Held, MayClose, MayMitigate, HasRow};
 ghost use Rattle.row_counts.specs.Standing.{StandsFor};
@@ -15,11 +15,11 @@ pub fn stays()
         → StandsFor it h b (record { clock = clock; command = command } ∷ log) }
 {}
 
-/// One more closing of a row can be counted where the row is below the bank's rows, its counter below ATH + h + 3, and
+/// One more closing of a row can be counted where the row is below the bank's rows, its counter below the bound, and
 /// the log shorter than 2^48 places; one more mitigation where the log is that short.
 pub fn may_change()
     ensures close { (it : Held) (h : Header) (b row : ℕ) (log : Log) → StandsFor it h b log → row < h.settings.rows
-        → cnt h b row log < h.settings.ath + height_of 3 h.settings.rows + 3 → length log < 2 ^ 48 → MayClose it row }
+        → cnt h b row log < bound h → length log < 2 ^ 48 → MayClose it row }
     ensures mitigate { (it : Held) (h : Header) (b : ℕ) (log : Log) → StandsFor it h b log → length log < 2 ^ 48
         → it.changes < 2 ^ 48 }
     ensures rows { (it : Held) (h : Header) (b : ℕ) (log : Log) → StandsFor it h b log

@@ -4,7 +4,7 @@ use crate::{BankCounts, height};
 use command_words::Row;
 use rand_core::utils::NextWord;
 use rand_pcg::Pcg32;
-use speed_bin::{RefreshMode, Settings};
+use speed_bin::{RefreshMode, Settings, Version};
 use std::alloc::Global;
 use std::test::Fail;
 
@@ -42,17 +42,24 @@ const MANY_ROWS: Settings = Settings {
 fn heights_of_powers_of_two(rt: HostRuntime) {
     let cases = [(1, 0), (8, 7), (16, 9), (64, 14), (1024, 24), (65_536, 38)];
     for (rows, expected) in cases {
-        assert_eq!(rt; height(rows), expected);
+        assert_eq!(rt; height(rows, 4), expected);
     }
+    assert_eq!(rt; height(65_536, 2), 16);
+    assert_eq!(rt; height(65_536, 3), 27);
+    assert_eq!(rt; height(65_536, 5), 49);
+    assert_eq!(rt; height(16, 3), 6);
+    assert_eq!(rt; height(1, 5), 0);
 }
 
 // Closes the rows in turn, and stops at one whose closing cannot be counted.
 fn close_each(counts: &mut BankCounts, settings: &Settings, rows: &[u32]) -> bool
     requires ath { counts.old.ath ≡ settings.now.ath }
     requires rows { counts.old.order.rows ≡ settings.now.rows }
+    requires levels { settings.now.ath + 2 ≤ counts.old.order.levels }
     requires changes { counts.old.changes + length rows.now < 2 ^ 48 }
     ensures ath { counts.new.ath ≡ settings.now.ath }
     ensures rows { counts.new.order.rows ≡ settings.now.rows }
+    ensures levels { settings.now.ath + 2 ≤ counts.new.order.levels }
     ensures changes { counts.new.changes ≤ counts.old.changes + length rows.now }
 {
     for number in rows {
@@ -68,7 +75,7 @@ fn close_each(counts: &mut BankCounts, settings: &Settings, rows: &[u32]) -> boo
 #[test]
 fn one_row_is_hot_at_the_fifth_closing(rt: HostRuntime) -> Result<(), Fail> {
     let row = Row::new(0).ok_or("row")?;
-    let mut counts = BankCounts::new(rt.alloc(), &ONE_ROW).ok().ok_or("memory")?;
+    let mut counts = BankCounts::new(rt.alloc(), &ONE_ROW, Version::plain()).ok().ok_or("memory")?;
     assert!(rt; close_each(&mut counts, &ONE_ROW, &[0, 0, 0, 0]));
     assert_eq!(rt; counts.count(row), 4);
     assert!(rt; !counts.hot());
@@ -85,7 +92,7 @@ fn one_row_is_hot_at_the_fifth_closing(rt: HostRuntime) -> Result<(), Fail> {
 fn of_two_equal_rows_the_older_is_tracked(rt: HostRuntime) -> Result<(), Fail> {
     let first = Row::new(0).ok_or("row")?;
     let second = Row::new(1).ok_or("row")?;
-    let mut counts = BankCounts::new(rt.alloc(), &TWO_ROWS).ok().ok_or("memory")?;
+    let mut counts = BankCounts::new(rt.alloc(), &TWO_ROWS, Version::plain()).ok().ok_or("memory")?;
     assert!(rt;
         close_each(
             &mut counts,
@@ -149,6 +156,7 @@ fn mitigated(counts: &mut BankCounts) -> Option<u32>
     requires changes { counts.old.changes < 2 ^ 48 }
     ensures ath { counts.new.ath ≡ counts.old.ath }
     ensures rows { counts.new.order.rows ≡ counts.old.order.rows }
+    ensures levels { counts.new.order.levels ≡ counts.old.order.levels }
     ensures changes { counts.new.changes ≤ counts.old.changes + 1 }
 {
     match counts.mitigate() {
@@ -160,7 +168,7 @@ fn mitigated(counts: &mut BankCounts) -> Option<u32>
 // Of so many random changes, each fourth of them a mitigation, the number before the first after which the counters and
 // the tables differ.
 fn agreed(alloc: Global, changes: u32) -> Option<u32> {
-    let mut counts = BankCounts::new(alloc, &MANY_ROWS).ok()?;
+    let mut counts = BankCounts::new(alloc, &MANY_ROWS, Version::plain()).ok()?;
     let mut tables = Tables {
         counts: [0; 64],
         stamps: [0; 64],

@@ -1,6 +1,6 @@
 //! What is proved of the controller's list as a whole. Each function does nothing: its contract is one law over whatever a
 //! controller stands for.
-ghost use Rattle.std.specs.Prelude.{◌≡◌, ℕ, ◌+◌, ◌*◌, ◌/◌, ◌<◌, ◌≤◌, ◌^◌, ◌⊎◌, ◌++◌, [], ◌∷◌, List, Option, None, true, length};
+ghost use Rattle.std.specs.Prelude.{◌≡◌, ℕ, ◌+◌, ◌*◌, ◌/◌, ◌<◌, ◌≤◌, ◌^◌, ◌⊎◌, ◌++◌, [], ◌∷◌, List, Option, Some, Bool, None, true, length};
 ghost use Rattle.command_words.specs.Command.{bank_number, IsBank};
 ghost use Rattle.command_words.specs.declared.place.Bank.{Bank as AnyBank};
 ghost use Rattle.speed_bin.specs.Alert.{alert};
@@ -15,7 +15,8 @@ ghost use Rattle.speed_bin.specs.declared.header.Header.{Header as AnyHeader};
 ghost use Rattle.requests.specs.Choice.{IsOldestHit, IsOldestRow};
 ghost use Rattle.requests.specs.Order.{AllServing, IsInOrder, AreServedOnce, Serves};
 ghost use Rattle.requests.specs.declared.request.Kind.{Kind as AnyKind};
-ghost use Rattle.requests.specs.Queue.{Step, places, waiting, span, AreInside, AreKnown, IsFull};
+ghost use Rattle.requests.specs.Queue.{Step, places, waiting, oldest, span, AreInside, AreKnown, IsFull};
+ghost use Rattle.requests.specs.declared.waiting.Waiting.{Waiting};
 ghost use Rattle.requests.specs.Window.{window as window_of};
 ghost use Rattle.requests.specs.declared.request.Request.{Request as AnyRequest};
 ghost use Rattle.scheduler.specs.Controller.{StandsFor, from_of, until_of};
@@ -123,11 +124,14 @@ pub fn unraised()
     requests::laws::activations();
 }
 
-/// An ACT that was chosen for a waiting request opens a row of the header's.
+/// An ACT that was chosen for a waiting request opens a row of the header's, and the bank of a waiting request is one of the
+/// header's.
 #[tactic(auto, unfolding(crate::specs::Controller::StandsFor))]
 pub fn inside()
     ensures row { (h : AnyHeader) (c : AnyController) (offered : List AnyRequest) (idle : ℕ) (log : List Step) (b row : ℕ) → StandsFor h c offered idle log
         → IsOldestRow (waiting h offered log) b row → row < h.settings.rows }
+    ensures bank { (h : AnyHeader) (c : AnyController) (offered : List AnyRequest) (idle : ℕ) (log : List Step) (test : Waiting → Bool) (w : Waiting) → StandsFor h c offered idle log
+        → oldest test (waiting h offered log) ≡ Some w → bank_number w.place.bank < h.version.groups * 4 }
 {
     requests::laws::queued();
 }

@@ -7,7 +7,7 @@ use crate::laws::{bounds, in_order, inside, passed, serves, sound, unraised, wor
 use crate::{Clock, Controller, Turn};
 use command_words::{Command, LineAddr, encode};
 use requests::{Kind, Request, RequestId};
-use speed_bin::{Header, read_header};
+use speed_bin::{Header, Version, read_header};
 use std::alloc::Global;
 use std::test::Fail;
 
@@ -173,7 +173,7 @@ fn run(alloc: Global, header: &Header, lines: &[Line], wanted: &[Issued]) -> Opt
 
 // Runs the lines under the header of this text.
 fn run_text(alloc: Global, text: &[u8], lines: &[Line], wanted: &[Issued]) -> Option<Clock> {
-    let Ok(header) = read_header(alloc, text) else {
+    let Ok(header) = read_header(alloc, text, Version::plain()) else {
         return None;
     };
     run(alloc, &header, lines, wanted)

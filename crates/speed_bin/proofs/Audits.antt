@@ -51,7 +51,7 @@ fine_keeps h (place ∷ log) inside fine =
     )
 
 here_bounded : (h : Header) (clock : ℕ) (c : Command) (log : Log) → IsAccepted h → Keeps h (record { clock = clock; command = c } ∷ log) → ((bank : Bank) (row : ℕ) → c ≡ Act bank row → bank_number bank < 32) → acts_opened h c (record { clock = clock; command = c } ∷ log) ≤ bound h
-here_bounded h clock (Act bank row) log ok keeps low = bound_lem h (bank_number bank) row (record { clock = clock; command = Act bank row } ∷ log) ok (low bank row refl) (ltb-true _ _ keeps.1.in_range) keeps
+here_bounded h clock (Act bank row) log ok keeps low = bound_lem h (bank_number bank) row (record { clock = clock; command = Act bank row } ∷ log) ok (low bank row refl) (ltb-true _ _ (both _ _ keeps.1.in_range).0) keeps
 here_bounded h clock _ log ok keeps low = omega arith
 
 pub peak_bounded : (h : Header) (log : Log) → IsAccepted h → Keeps h log → BanksInRange log → peak h log ≤ bound h

@@ -16,7 +16,7 @@ pub record BoundChecks (h : Header) : Type 0 where
 -- the activations of a back-off cycle beyond the first are 1 to 4
 pub spare_in_range : (h : Header) → IsAccepted h → (1 ≤ spare h) × (spare h ≤ 4)
 unfolding spare
-spare_in_range h ok = (omega arith, omega arith)
+spare_in_range h ok = let low = ok.version.0 in let high = ok.version.1 in (omega (arith, low), omega (arith, high))
 
 pub bound_checks : (h : Header) → IsAccepted h → BoundChecks h
 bound_checks h ok =

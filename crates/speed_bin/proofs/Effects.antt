@@ -123,7 +123,7 @@ rule_12_opens h a clock c log act raised k =
 pub in_range_opens : (h : Header) (b r : ℕ) (c : Command) → effect b c ≡ Opens r → is_in_range h c ≡ true → r < h.settings.rows
 in_range_opens h b r (Act bank row) e k =
     let same : row ≡ r = go (bank_number bank == b) e in
-    subst (λ (i : ℕ). i < h.settings.rows) same (ltb-true _ _ k)
+    subst (λ (i : ℕ). i < h.settings.rows) same (ltb-true _ _ (both _ _ k).0)
   where
     go : (t : Bool) → cond t (Opens row) Leaves ≡ Opens r → row ≡ r
     go true f = cc

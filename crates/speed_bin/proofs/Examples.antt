@@ -6,6 +6,7 @@ use Rattle.speed_bin.specs.Log.{Issued, Log}
 use Rattle.speed_bin.specs.Registers.{register_writes}
 use Rattle.speed_bin.specs.Timing.{tiny}
 use Rattle.speed_bin.specs.declared.settings.RefreshMode.TheVariants.{All}
+use Rattle.speed_bin.specs.Version.{plain}
 use Rattle.speed_bin.specs.declared.header.Header.{Header}
 
 -- a header of the bin `tiny`, by rows, ATH, ETH, RAAIMT and RAAMMT
@@ -21,6 +22,7 @@ tiny_header rows ath eth raaimt raammt = record {
     refresh = All;
     ecs_every = 0;
   };
+  version = plain;
 }
 
 -- one command of bank address 0 in a group, or of all banks

@@ -22,6 +22,9 @@ pub mod OneRow
 pub mod TwoRows
 pub mod AlertFromAnotherBank
 pub mod SpareIsNeeded
+mod TwoPerCycle
+mod Cycled
+pub mod Present
 mod Greatest
 mod Ranges
 mod Accepted

@@ -1,5 +1,5 @@
 -- Without its 3 the bound would be false: the one row of `OneRow` has 8 activations, and ATH + h is 5.
-use Rattle.std.proofs.Common.{◌≡◌, ℕ, ◌+◌, ◌<◌, ◌≤◌, true, nat_le, ltb-true, None, refl, arith, leb-true}
+use Rattle.std.proofs.Common.{◌≡◌, ℕ, ◌+◌, ◌<◌, ◌≤◌, true, nat_le, ltb-true, None, refl, arith, leb-true, inr}
 use Rattle.speed_bin.specs.declared.header.Header.{Header}
 use Rattle.speed_bin.specs.Below.{all_below, any_below}
 use Rattle.speed_bin.specs.Gap.{n_tail, n_max, n_close, n_col}
@@ -71,6 +71,7 @@ pub one_row_accepted : IsAccepted header
 one_row_accepted = record {
   timing = tiny_timing;
   settings = one_row_settings;
+  version = (leb-true _ _ refl, leb-true _ _ refl, inr refl);
   checks = one_row_checks;
 }
 

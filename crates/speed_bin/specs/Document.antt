@@ -8,6 +8,7 @@ use Rattle.speed_bin.specs.Header.{spare, refresh_length}
 use Rattle.speed_bin.specs.Keys.{all_members, key_fits, kind_fits, range_fits, has_required}
 use Rattle.speed_bin.specs.Rules.{first_failing}
 use Rattle.speed_bin.specs.Timing.{bin_named}
+use Rattle.speed_bin.specs.Version.{Figures}
 use Rattle.speed_bin.specs.declared.fault.HeaderFault.{HeaderFault}
 use Rattle.speed_bin.specs.declared.fault.HeaderFault.TheVariants.{NotToml, Key, Kind, Range, NoBin, Check}
 use Rattle.speed_bin.specs.declared.header.Header.{Header}
@@ -128,22 +129,22 @@ checked h = failed h (first_failing 1 (checks_of h))
 
 -- ---- The header
 
-abbrev pub with_bin : Members → Option Timing → Result Header HeaderFault
-with_bin top None = Err NoBin
-with_bin top (Some bin) = checked (record { timing = timing_in bin top; settings = settings_in top })
+abbrev pub with_bin : Figures → Members → Option Timing → Result Header HeaderFault
+with_bin version top None = Err NoBin
+with_bin version top (Some bin) = checked (record { timing = timing_in bin top; settings = settings_in top; version = version })
 
 -- what members state: the faults are tried in the order Key, Kind, Range, NoBin, Check
-abbrev pub header_in : Members → Result Header HeaderFault
-header_in top =
+abbrev pub header_in : Figures → Members → Result Header HeaderFault
+header_in version top =
     if not (all_members key_fits top && has_required top) then Err Key
     else (if not (all_members kind_fits top) then Err Kind
     else (if not (all_members range_fits top) then Err Range
-    else with_bin top (option_and_then bin_named (text_at (codes "bin") top))))
+    else with_bin version top (option_and_then bin_named (text_at (codes "bin") top))))
 
-abbrev pub header_of : Option Members → Result Header HeaderFault
-header_of None = Err NotToml
-header_of (Some top) = header_in top
+abbrev pub header_of : Figures → Option Members → Result Header HeaderFault
+header_of version None = Err NotToml
+header_of version (Some top) = header_in version top
 
--- what a text states
-abbrev pub header_stated : List ℕ → Result Header HeaderFault
-header_stated text = if is_utf8 text then header_of (parse_document text) else Err NotToml
+-- what a text states, in front of a separator with this version
+abbrev pub header_stated : Figures → List ℕ → Result Header HeaderFault
+header_stated version text = if is_utf8 text then header_of version (parse_document text) else Err NotToml

@@ -1,8 +1,10 @@
 -- Accepted headers: their numbers are in range, and the checks of `docs/RULES.md` hold.
-use Rattle.std.specs.Prelude.{ℕ, suc, ◌≡◌, ◌<◌, ◌≤◌, ◌+◌, ◌*◌, max}
+use Rattle.std.specs.Prelude.{ℕ, suc, ◌≡◌, ◌<◌, ◌≤◌, ◌+◌, ◌-◌, ◌*◌, max}
+use Rattle.command_words.specs.Geometry.{Shape}
 use Rattle.speed_bin.specs.Gap.{n_max, n_close, n_tail}
 use Rattle.speed_bin.specs.Height.{height_of}
 use Rattle.speed_bin.specs.Timing.{IsTiming}
+use Rattle.speed_bin.specs.Version.{IsVersion}
 use Rattle.speed_bin.specs.declared.settings.Settings.{Settings}
 use Rattle.speed_bin.specs.declared.header.Header.{Header}
 
@@ -15,9 +17,13 @@ pub record IsSettings (s : Settings) : Type 0 where
   pub raammt : (1 ≤ s.raammt) × (s.raammt ≤ 1023)
   pub ecs_every : s.ecs_every ≤ 255
 
--- The activations of one bank that a back-off cycle has beyond the first: a cycle has 4.
+-- the shape of the header's subchannel: its rows, and the bank groups of its version
+abbrev pub shape_of : Header → Shape
+shape_of h = record { rows = h.settings.rows; groups = h.version.groups }
+
+-- the activations of one bank that a back-off cycle has beyond the first
 unfoldable pub spare : Header → ℕ
-spare h = 3
+spare h = h.version.cycle - 1
 
 -- the greater of a refresh of all banks and of four refreshes of one address each
 abbrev pub refresh_length : Header → ℕ
@@ -38,6 +44,7 @@ pub record Checks (h : Header) : Type 0 where
 pub record IsAccepted (h : Header) : Type 0 where
   pub timing : IsTiming h.timing
   pub settings : IsSettings h.settings
+  pub version : IsVersion h.version
   pub checks : Checks h
 
 -- no row of a log that keeps the rules is activated more often than this since its last mitigation

@@ -1,4 +1,5 @@
 pub mod Timing
+pub mod Version
 pub mod Below
 pub mod Kinds
 pub mod Log
@@ -11,6 +12,7 @@ pub mod Page
 pub mod Height
 pub mod Header
 pub mod Marks
+pub mod Present
 pub mod Weights
 pub mod Counts
 pub mod Keys

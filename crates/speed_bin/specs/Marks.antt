@@ -1,9 +1,9 @@
 -- What the bound on activations speaks of: logs that keep five of the rules, and the marks of a bank.
-use Rattle.std.specs.Prelude.{◌≡◌, ◌<◌, ℕ, suc, Bool, true, ◌||◌, nat_lt, if◌then◌else◌, [], ◌∷◌, IsTrue, ⊤}
+use Rattle.std.specs.Prelude.{◌≡◌, ◌<◌, ◌*◌, ℕ, suc, Bool, true, ◌&&◌, ◌||◌, nat_lt, if◌then◌else◌, [], ◌∷◌, IsTrue, ⊤}
 use Rattle.command_words.specs.Command.{bank_number}
 use Rattle.command_words.specs.declared.place.Bank.{Bank}
 use Rattle.command_words.specs.declared.command.Command.{Command}
-use Rattle.command_words.specs.declared.command.Command.TheVariants.{Act}
+use Rattle.command_words.specs.declared.command.Command.TheVariants.{Act, Rd, Wr, PrePb}
 use Rattle.speed_bin.specs.Below.{all_below}
 use Rattle.speed_bin.specs.Kinds.{Effect, Opens, Closes, Manages, Refreshes, Leaves, effect, is_rfm_all}
 use Rattle.speed_bin.specs.Log.{Issued, Log}
@@ -11,12 +11,19 @@ use Rattle.speed_bin.specs.Counters.{acts}
 use Rattle.speed_bin.specs.Rules.{rule_1, rule_2, rule_4, rule_5, rule_12}
 use Rattle.speed_bin.specs.declared.header.Header.{Header}
 
--- an ACT opens a row of the header
+-- the bank is one of the header's groups
+abbrev pub is_bank : Header → Bank → Bool
+is_bank h bank = nat_lt (bank_number bank) (h.version.groups * 4)
+
+-- a bank that a command names is one of the header's, and an ACT opens a row of the header
 abbrev pub is_in_range : Header → Command → Bool
-is_in_range h (Act bank row) = nat_lt row h.settings.rows
+is_in_range h (Act bank row) = nat_lt row h.settings.rows && is_bank h bank
+is_in_range h (Rd bank column) = is_bank h bank
+is_in_range h (Wr bank column) = is_bank h bank
+is_in_range h (PrePb bank) = is_bank h bank
 is_in_range h _ = true
 
--- each ACT of the log opens a row of the header
+-- each command of the log is
 abbrev pub RowsInRange : Header → Log → Type 0
 RowsInRange h [] = ⊤
 RowsInRange h (place ∷ log) = RowsInRange h log × IsTrue (is_in_range h place.command)

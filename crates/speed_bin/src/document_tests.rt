@@ -1,4 +1,4 @@
-use crate::{HeaderFault, RefreshMode, named, read_header};
+use crate::{HeaderFault, RefreshMode, Version, named, read_header};
 use std::test::Fail;
 
 const SMALL: &str =
@@ -21,7 +21,7 @@ fn derived_numbers_of_the_bins(rt: HostRuntime) -> Result<(), Fail> {
 
 #[test]
 fn a_header_is_read(rt: HostRuntime) -> Result<(), Fail> {
-    let header = read_header(rt.alloc(), SMALL.as_bytes())?;
+    let header = read_header(rt.alloc(), SMALL.as_bytes(), Version::plain())?;
     let tiny = named("tiny").ok_or("tiny")?;
     assert!(rt; header.timing == tiny);
     assert_eq!(rt; header.settings.rows, 16);
@@ -29,7 +29,7 @@ fn a_header_is_read(rt: HostRuntime) -> Result<(), Fail> {
     assert!(rt; header.settings.refresh == RefreshMode::All);
     assert_eq!(rt; header.geometry().rows(), 16);
     let replaced = format!(in rt.alloc(); "{SMALL}[timing]\nnRCD = 4\n")?;
-    let header = read_header(rt.alloc(), replaced.as_bytes())?;
+    let header = read_header(rt.alloc(), replaced.as_bytes(), Version::plain())?;
     assert_eq!(rt; header.timing.nrcd, 4);
     assert_eq!(rt; header.timing.nras, 6);
     Ok(())
@@ -53,7 +53,7 @@ fn a_header_is_refused(rt: HostRuntime) -> Result<(), Fail> {
     ];
     for (more, fault) in rows {
         let text = format!(in alloc; "{SMALL}{more}")?;
-        assert!(rt; read_header(alloc, text.as_bytes()) == Err(fault));
+        assert!(rt; read_header(alloc, text.as_bytes(), Version::plain()) == Err(fault));
     }
     Ok(())
 }
@@ -103,7 +103,7 @@ fn settings_are_refused(rt: HostRuntime) -> Result<(), Fail> {
         let text = format!(in alloc;
             "format = 1\nrows = 16\nraammt = 16\necs_every = 0\n{some}\n"
         )?;
-        assert!(rt; read_header(alloc, text.as_bytes()) == Err(fault));
+        assert!(rt; read_header(alloc, text.as_bytes(), Version::plain()) == Err(fault));
     }
     Ok(())
 }

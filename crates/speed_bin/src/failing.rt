@@ -6,9 +6,6 @@ ghost use Rattle.speed_bin.specs.Timing.{IsTiming};
 
 use crate::{Header, Settings, Timing};
 
-// The activations of a bank that a back-off cycle has beyond the first.
-const SPARE: u32 = 3;
-
 // The number of the first check that fails.
 #[tactic(auto, unfolding(crate::specs::Document::checks_of))]
 pub(crate) fn failing_check(header: &Header) -> Option<u8>
@@ -50,7 +47,7 @@ fn window_fits(header: &Header) -> bool
     ensures { result ≡ window_fits header.now }
 {
     let timing = &header.timing;
-    timing.nabo < timing.nrp + SPARE * timing.nrc
+    timing.nabo < timing.nrp + header.spare() * timing.nrc
 }
 
 // Check 3: the alert threshold is above a cycle's activations, and no mitigated row is above it.
@@ -59,7 +56,7 @@ fn thresholds_fit(header: &Header) -> bool
     ensures { result ≡ thresholds_fit header.now }
 {
     let settings = &header.settings;
-    SPARE + 2 <= settings.ath && settings.eth <= settings.ath
+    header.spare() + 2 <= settings.ath && settings.eth <= settings.ath
 }
 
 // Check 4: a management is wanted before no ACT is allowed.

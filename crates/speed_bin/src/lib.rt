@@ -11,9 +11,11 @@ mod keys;
 mod read;
 mod settings;
 mod timing;
+mod version;
 
 pub use fault::HeaderFault;
 pub use header::Header;
 pub use read::read_header;
 pub use settings::{RefreshMode, Settings};
 pub use timing::{Timing, named};
+pub use version::Version;

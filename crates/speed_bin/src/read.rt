@@ -6,32 +6,33 @@ ghost use Rattle.speed_bin.specs.Document.{header_stated, header_in, with_bin, c
 ghost use Rattle.speed_bin.specs.Header.{IsAccepted, IsSettings};
 ghost use Rattle.speed_bin.specs.Keys.{all_members, range_fits, has_required};
 ghost use Rattle.speed_bin.specs.Timing.{IsTiming, bin_named};
+ghost use Rattle.speed_bin.specs.Version.{IsVersion};
 
 use crate::failing::failing_check;
 use crate::keys::{all_keys_fit, all_kinds_fit, all_ranges_fit};
-use crate::{Header, HeaderFault, RefreshMode, Settings, Timing, named};
+use crate::{Header, HeaderFault, RefreshMode, Settings, Timing, Version, named};
 use std::alloc::Global;
 use toml::Table;
 
 /// The header that a TOML document states, by `docs/FORMATS.md`, or the first of its faults in the order of
-/// `HeaderFault`. Only for want of memory it answers `OutOfMemory`.
-pub fn read_header(alloc: Global, text: &[u8]) -> Result<Header, HeaderFault>
-    ensures stated { (result ≡ Err HeaderFault.OutOfMemory) ⊎ (result ≡ header_stated text.now) }
+/// `HeaderFault`, in front of a separator with this version. Only for want of memory it answers `OutOfMemory`.
+pub fn read_header(alloc: Global, text: &[u8], version: Version) -> Result<Header, HeaderFault>
+    ensures stated { (result ≡ Err HeaderFault.OutOfMemory) ⊎ (result ≡ header_stated version text.now) }
     ensures accepted { IfOk result IsAccepted }
 {
     let Ok(text) = str::from_utf8(text) else {
         return Err(HeaderFault::NotToml);
     };
     match toml::table_from_str(alloc, text) {
-        Ok(table) => header_in(&table),
+        Ok(table) => header_in(&table, version),
         Err(error) if error.is_memory() => Err(HeaderFault::OutOfMemory),
         Err(_) => Err(HeaderFault::NotToml),
     }
 }
 
 // The header that a table states, or its first fault.
-fn header_in(table: &Table) -> Result<Header, HeaderFault>
-    ensures stated { result ≡ header_in (table_view table.now) }
+fn header_in(table: &Table, version: Version) -> Result<Header, HeaderFault>
+    ensures stated { result ≡ header_in version (table_view table.now) }
     ensures accepted { IfOk result IsAccepted }
 {
     if !all_keys_fit(table) || !has_required(table) {
@@ -44,22 +45,23 @@ fn header_in(table: &Table) -> Result<Header, HeaderFault>
         return Err(HeaderFault::Range);
     }
     match bin_in(table) {
-        Some(bin) => with_bin(table, bin),
+        Some(bin) => with_bin(table, bin, version),
         None => Err(HeaderFault::NoBin),
     }
 }
 
 // The header with the numbers of a bin, or the first check that fails.
-fn with_bin(table: &Table, bin: Timing) -> Result<Header, HeaderFault>
+fn with_bin(table: &Table, bin: Timing, version: Version) -> Result<Header, HeaderFault>
     requires bin { IsTiming bin }
     requires ranges { all_members range_fits (table_view table.now) ≡ true }
     requires required { has_required (table_view table.now) ≡ true }
-    ensures stated { result ≡ with_bin (table_view table.now) (Some bin) }
+    ensures stated { result ≡ with_bin version (table_view table.now) (Some bin) }
     ensures accepted { IfOk result IsAccepted }
 {
     let header = Header {
         timing: timing_in(table, bin),
         settings: settings_in(table),
+        version,
     };
     checked(header)
 }
@@ -70,6 +72,7 @@ fn checked(header: Header) -> Result<Header, HeaderFault>
     ensures stated { result ≡ checked header }
     ensures accepted { IfOk result IsAccepted }
 {
+    let _cycle = header.version.cycle();
     match failing_check(&header) {
         Some(check) => Err(HeaderFault::Check(check)),
         None => Ok(header),

@@ -1,8 +1,10 @@
 -- One list at both ends: its logs are the same, a turn leaves it as it was, and what is pending may be given.
-use Rattle.std.proofs.Common.{◌≡◌, ◌∙◌, ◌<◌, ◌^◌, ℕ, Bool, false, Option, Some, None, is_some, option_map, option_copied, List, [], ◌∷◌, max, IsTrue, refl, sym, ap, subst, arith}
+use Rattle.std.proofs.Common.{◌*◌, true, nat_lt, lt-ltb, eqb-true, IsSome, ◌≡◌, ◌∙◌, ◌<◌, ◌^◌, ℕ, Bool, false, Option, Some, None, is_some, option_map, option_copied, List, [], ◌∷◌, max, IsTrue, refl, sym, ap, subst, arith}
+use Rattle.requests.proofs.Oldest.{holds}
+use Rattle.speed_bin.proofs.Tests.{both, joined}
 use Rattle.std.proofs.lemmas.Bool.Decides.{nat_tests}
 use Rattle.std.specs.Borrow.{Bor}
-use Rattle.command_words.specs.Command.{IsInRange}
+use Rattle.command_words.specs.Command.{bank_number, IsInRange}
 use Rattle.command_words.specs.Words.{Spells}
 use Rattle.command_words.specs.declared.command.Command.{Command}
 use Rattle.command_words.specs.declared.command.Command.TheVariants.{Act, Rd, Wr, PrePb, PreSb, PreAb, RefAb, RefSb, RfmAb, RfmSb, Mrw, Ecs, Nop}
@@ -10,11 +12,11 @@ use Rattle.command_words.specs.declared.words.Words.{Words}
 use Rattle.speed_bin.specs.Alert.{alert}
 use Rattle.speed_bin.specs.Kinds.{is_wr}
 use Rattle.speed_bin.specs.Log.{Log}
-use Rattle.speed_bin.specs.Marks.{is_in_range}
+use Rattle.speed_bin.specs.Marks.{is_bank, is_in_range}
 use Rattle.speed_bin.specs.Rules.{all_closed, broken, broken_at_end}
 use Rattle.speed_bin.specs.declared.header.Header.{Header}
 use Rattle.requests.specs.Choice.{IsChosen, IsOldestRow, IsPrompt}
-use Rattle.requests.specs.Queue.{Step as NumberedStep, places, waiting}
+use Rattle.requests.specs.Queue.{in_bank, hits, oldest, Step as NumberedStep, places, waiting}
 use Rattle.requests.specs.declared.request.Request.{Request}
 use Rattle.requests.specs.declared.waiting.Waiting.{Waiting}
 use Rattle.scheduler.specs.Controller.{number_of, StandsFor as ControllerFor, After as ControllerAfter, from_of as controller_from}
@@ -52,23 +54,43 @@ told c h offered idle steps s = s.alert ∙ sym (ap (λ (log : Log). is_some (al
 -- what holds of every controller
 pub record Laws : Type 0 where
   pub inside : (h : Header) (c : Controller) (offered : List Request) (idle : ℕ) (log : List NumberedStep) (b row : ℕ) → ControllerFor h c offered idle log → IsOldestRow (waiting h offered log) b row → row < h.settings.rows
+  pub own : (h : Header) (c : Controller) (offered : List Request) (idle : ℕ) (log : List NumberedStep) (test : Waiting → Bool) (w : Waiting) → ControllerFor h c offered idle log → oldest test (waiting h offered log) ≡ Some w → bank_number w.place.bank < h.version.groups * 4
   pub newest : (h : Header) (c : Controller) (offered : List Request) (idle : ℕ) (step : NumberedStep) (log : List NumberedStep) → ControllerFor h c offered idle (step ∷ log) → step.issued.clock < controller_from c
   pub near : (h : Header) (c : Controller) (offered : List Request) (idle : ℕ) (log : List NumberedStep) → ControllerFor h c offered idle log → controller_from c < 2 ^ 48
 
-row_inside : (h : Header) (ws : List Waiting) (log : Log) (clock : ℕ) (command : Command) (id : Option ℕ) → ((b row : ℕ) → IsOldestRow ws b row → row < h.settings.rows) → IsChosen h ws log clock command id → IsTrue (is_in_range h command)
-row_inside h ws log clock (Act bank row) id inside chosen = let low = inside _ row chosen.0 in grind (arith, nat_tests)
-row_inside h ws log clock (Rd bank column) id inside chosen = refl
-row_inside h ws log clock (Wr bank column) id inside chosen = refl
-row_inside h ws log clock (PrePb bank) id inside chosen = refl
-row_inside h ws log clock (PreSb address) id inside chosen = refl
-row_inside h ws log clock PreAb id inside chosen = refl
-row_inside h ws log clock RefAb id inside chosen = refl
-row_inside h ws log clock (RefSb address) id inside chosen = refl
-row_inside h ws log clock RfmAb id inside chosen = refl
-row_inside h ws log clock (RfmSb address) id inside chosen = refl
-row_inside h ws log clock (Mrw write) id inside chosen = refl
-row_inside h ws log clock Ecs id inside chosen = refl
-row_inside h ws log clock Nop id inside chosen = refl
+-- the banks of waiting requests are the header's
+abbrev OwnBanks : Header → List Waiting → Type 0
+OwnBanks h ws = (test : Waiting → Bool) (w : Waiting) → oldest test ws ≡ Some w → bank_number w.place.bank < h.version.groups * 4
+
+own_bank : (h : Header) (ws : List Waiting) (b : ℕ) (w : Waiting) → OwnBanks h ws → oldest (in_bank b) ws ≡ Some w → nat_lt b (h.version.groups * 4) ≡ true
+own_bank h ws b w own e =
+    let same : bank_number w.place.bank ≡ b = eqb-true _ _ (holds (in_bank b) ws w e) in
+    lt-ltb b (h.version.groups * 4) (subst (λ n. n < h.version.groups * 4) same (own (in_bank b) w e))
+
+hit_bank : (h : Header) (ws : List Waiting) (b : ℕ) (open_row : Option ℕ) (w : Waiting) → OwnBanks h ws → oldest (hits b open_row) ws ≡ Some w → nat_lt b (h.version.groups * 4) ≡ true
+hit_bank h ws b open_row w own e =
+    let same : bank_number w.place.bank ≡ b = eqb-true _ _ (both (in_bank b w) _ (holds (hits b open_row) ws w e)).0 in
+    lt-ltb b (h.version.groups * 4) (subst (λ n. n < h.version.groups * 4) same (own (hits b open_row) w e))
+
+some_bank : (h : Header) (ws : List Waiting) (b : ℕ) (o : Option Waiting) → OwnBanks h ws → oldest (in_bank b) ws ≡ o → IsSome o → nat_lt b (h.version.groups * 4) ≡ true
+some_bank h ws b None own e some = absurd cc
+some_bank h ws b (Some w) own e some = own_bank h ws b w own e
+
+row_inside : (h : Header) (ws : List Waiting) (log : Log) (clock : ℕ) (command : Command) (id : Option ℕ) → ((b row : ℕ) → IsOldestRow ws b row → row < h.settings.rows) → OwnBanks h ws → IsChosen h ws log clock command id → IsTrue (is_in_range h command)
+row_inside h ws log clock (Act bank row) id inside own chosen =
+    joined (nat_lt row h.settings.rows) (is_bank h bank) (lt-ltb row h.settings.rows (inside _ row chosen.0)) (own_bank h ws (bank_number bank) chosen.0.request own chosen.0.oldest_of)
+row_inside h ws log clock (Rd bank column) id inside own chosen = hit_bank h ws (bank_number bank) _ chosen.request own chosen.oldest_hit
+row_inside h ws log clock (Wr bank column) id inside own chosen = hit_bank h ws (bank_number bank) _ chosen.request own chosen.oldest_hit
+row_inside h ws log clock (PrePb bank) id inside own chosen = some_bank h ws (bank_number bank) (oldest (in_bank (bank_number bank)) ws) own refl chosen.0.some
+row_inside h ws log clock (PreSb address) id inside own chosen = refl
+row_inside h ws log clock PreAb id inside own chosen = refl
+row_inside h ws log clock RefAb id inside own chosen = refl
+row_inside h ws log clock (RefSb address) id inside own chosen = refl
+row_inside h ws log clock RfmAb id inside own chosen = refl
+row_inside h ws log clock (RfmSb address) id inside own chosen = refl
+row_inside h ws log clock (Mrw write) id inside own chosen = refl
+row_inside h ws log clock Ecs id inside own chosen = refl
+row_inside h ws log clock Nop id inside own chosen = refl
 
 resting : (h : Header) (old : Coupled) (controller : Controller) (pending : Option Pending) (offered : List Request) (idle : ℕ) (steps : List Step)
     → Keeps old h offered idle steps → ControllerFor h controller offered idle (controller_steps steps) → option_map step_of pending ≡ None
@@ -92,7 +114,8 @@ after_turn (Issue clock command id) from until finished h old controller pending
     let due : IsDue h (log_of steps) (issued_as clock command id) = record {
       in_time = omega (arith, newest, near);
       row = row_inside h (waiting h offered (controller_steps steps)) (places (controller_steps steps)) clock command (number_of id)
-          (λ b row oldest. laws.inside h old.controller offered idle (controller_steps steps) b row (unpended old h offered idle steps none s) oldest) t.chosen;
+          (λ b row oldest. laws.inside h old.controller offered idle (controller_steps steps) b row (unpended old h offered idle steps none s) oldest)
+          (λ test w is. laws.own h old.controller offered idle (controller_steps steps) test w (unpended old h offered idle steps none s) is) t.chosen;
       rules = subst (λ (l : Log). broken h clock command l ≡ None) log t.right;
     } in
     record {

@@ -4,6 +4,7 @@ use Rattle.std.specs.List.{flat_map}
 use Rattle.std.specs.Io.KnownBytes.{Appends}
 use Rattle.std.proofs.KnownBytes.{Appends-trans}
 use Rattle.std.proofs.lemmas.List.Sums.{sum_by-append}
+use Rattle.speed_bin.specs.Header.{IsAccepted}
 use Rattle.speed_bin.specs.declared.header.Header.{Header}
 use Rattle.ddr_io.specs.Sink.{AppendsPrefix}
 use Rattle.ddr_text.specs.Spelling.{spelled}
@@ -261,7 +262,7 @@ pub record FlipLaws : Type 0 where
   pub parts : Parts
   pub none_held : NoneHeld
   pub turns : (h : Header) (trace : List TraceLine) (run : Run) (number line device bit : ℕ) → slice_get trace (number - 1) ≡ Some (Flip line device bit) → device_steps h trace (Flips number ∷ run) ≡ Turned (place_of line (shape_of h)) device bit ∷ device_steps h trace run
-  pub bits : (h : Header) (trace : List TraceLine) (number line device bit : ℕ) → AreInside (shape_of h) trace → slice_get trace (number - 1) ≡ Some (Flip line device bit) → IsBit h (place_of line (shape_of h)) device bit
+  pub bits : (h : Header) (trace : List TraceLine) (number line device bit : ℕ) → IsAccepted h → AreInside (shape_of h) trace → slice_get trace (number - 1) ≡ Some (Flip line device bit) → IsBit h (place_of line (shape_of h)) device bit
 
 pub flip-traced : FlipLaws → (h : Header) (p : Progress) (trace : List TraceLine) (run : Run) (line device bit : ℕ) → Follows h p trace run → IsMore (shape_of h) p.tally (Flip line device bit) → IsTrace (shape_of h) (trace ++ Flip line device bit ∷ [])
 flip-traced laws h p trace run line device bit f m = record {
@@ -288,7 +289,7 @@ flip-holds laws h p turned place trace run line device bit e at stands pending f
     let under : IsUnderway h trace f.done f.now run (NextLine (Flip line device bit)) = subst (λ v. IsUnderway h trace f.done f.now run (following v)) e f.underway in
     let here : slice_get (trace ++ Flip line device bit ∷ []) (1 + length trace - 1) ≡ Some (Flip line device bit) = get-last trace (Flip line device bit) (1 + length trace - 1) (omega arith) in
     let placed : place ≡ place_of line (shape_of h) = at ∙ ap (place_of line) f.geometry in
-    let bit_is : IsBit h place device bit = subst (λ v. IsBit h v device bit) (sym placed) (laws.bits h (trace ++ Flip line device bit ∷ []) (1 + length trace) line device bit traced.inside here) in
+    let bit_is : IsBit h place device bit = subst (λ v. IsBit h v device bit) (sym placed) (laws.bits h (trace ++ Flip line device bit ∷ []) (1 + length trace) line device bit f.accepted traced.inside here) in
     let total : p.tally.clocks + passing p.ahead ≡ p.tally.clocks + 0 + 0 = let z : passing p.ahead ≡ 0 = ap passing e in omega (arith, z) in
     let none : held (requests trace) run ≡ [] = laws.none_held h trace run f.underway.sound a.none_waits in
     let all : requests (trace ++ Flip line device bit ∷ []) ≡ requests trace = requests-more_of 1 trace (Flip line device bit) (1 + length trace) refl ∙ append-nil (requests trace) in

@@ -5,12 +5,11 @@ use Rattle.std.specs.declared.option.Option.{Option}
 use Rattle.command_words.specs.Geometry.{Shape}
 use Rattle.command_words.specs.declared.words.WordFault.TheVariants as word
 use Rattle.ddr_text.specs.Grammar.{trace_line_of}
-use Rattle.ddr_text.specs.Opening.{parts_of, is_long, IsReason, Accepts, Refuses, opening_of}
+use Rattle.ddr_text.specs.Opening.{States, parts_of, is_long, IsReason, Accepts, Refuses, opening_of}
 use Rattle.ddr_text.specs.declared.lines.LineFault.{LineFault}
 use Rattle.ddr_text.specs.declared.lines.LineFault.TheVariants.{Empty, Letter, Fields, Number, Range, Hex, Word}
 use Rattle.ddr_text.specs.declared.lines.TraceLine.{TraceLine}
 use Rattle.ddr_text.specs.declared.lines.TraceLine.TheVariants.{Read, Write, Flip, Idle}
-use Rattle.speed_bin.specs.Document.{header_stated}
 use Rattle.speed_bin.specs.Header.{IsAccepted}
 use Rattle.speed_bin.specs.declared.header.Header.{Header}
 use Rattle.requests.specs.Queue.{shape_of}
@@ -105,14 +104,14 @@ trace_of g bytes = trace_from g [] (parts_of bytes)
 
 -- The known bytes open a job with this header and this text, and behind it stand this trace and this refusal.
 abbrev pub IsJobOf : Option (List ℕ) → Header → List ℕ → List TraceLine → Option ℕ → Type 0
-IsJobOf None header text trace refused = IsAccepted header × (header_stated text ≡ Ok header)
+IsJobOf None header text trace refused = IsAccepted header × States text header
 IsJobOf (Some bytes) header text trace refused =
     (rest : List ℕ) × (opening_of bytes ≡ Accepts header text rest)
     × (trace_of (shape_of header) rest ≡ record { lines = trace; refused = refused })
 
 -- the same of the bytes that were taken, where some are left: the trace is the lines that lie whole in them
 abbrev pub IsPartOf : Option (List ℕ) → Option (List ℕ) → Header → List ℕ → List TraceLine → Type 0
-IsPartOf None left header text trace = IsAccepted header × (header_stated text ≡ Ok header)
+IsPartOf None left header text trace = IsAccepted header × States text header
 IsPartOf (Some bytes) None header text trace = ⊥
 IsPartOf (Some bytes) (Some left) header text trace =
     (taken : List ℕ) × (opening_of bytes ≡ Accepts header text (taken ++ left)) × ((trace_of (shape_of header) taken).lines ≡ trace)

@@ -12,7 +12,7 @@ use error_scrub::LineRead;
 use ondie_ecc::ReadState;
 use requests::{Kind, Request};
 use scheduler::{Clock, Turn};
-use speed_bin::{Header, read_header};
+use speed_bin::{Header, Version, read_header};
 use std::alloc::Global;
 use std::test::Fail;
 
@@ -220,7 +220,7 @@ fn run(alloc: Global, header: &Header, lines: &[Line], wanted: &Wanted) -> Optio
 
 // Runs the lines under the header of this text.
 fn run_text(alloc: Global, text: &[u8], lines: &[Line], wanted: &Wanted) -> Option<(Clock, u32)> {
-    let Ok(header) = read_header(alloc, text) else {
+    let Ok(header) = read_header(alloc, text, Version::plain()) else {
         return None;
     };
     run(alloc, &header, lines, wanted)

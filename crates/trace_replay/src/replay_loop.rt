@@ -35,7 +35,7 @@ pub enum Ended {
     Stopped(Stop),
 }
 
-/// Reads a job, and writes its report as the run goes on: the header and the line behind it, the lines of each turn, the S
+/// Reads a job, and writes its report as the run goes on: the header and its separator, the lines of each turn, the S
 /// lines, the E line, and an X line where a line of the trace is refused. Of an opening that is refused it writes the X line alone.
 pub fn replay<S: Source, K: Sink>(alloc: Global, source: &mut S, sink: &mut K) -> Status
     ensures answer { Answers result (S.left source.old) (S.left source.new) (K.written sink.old) (K.written sink.new) }
@@ -153,7 +153,7 @@ fn serve_trace<S: Source, K: Sink>(
     reports::laws::reads_lines_inside();
     reports::laws::takes_a_request();
     let mut progress = begin(alloc, header)?;
-    put_opening(alloc, text, sink)?;
+    put_opening(text, sink)?;
     serve(&mut progress, reader, source, sink)?;
     Ok(progress.ending())
 }

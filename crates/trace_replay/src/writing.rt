@@ -5,17 +5,15 @@ ghost use Rattle.std.specs.Io.KnownBytes.{Appends};
 ghost use Rattle.ddr_io.specs.Sink.{AppendsPrefix};
 ghost use Rattle.ddr_text.specs.Spelling.{spelled};
 ghost use Rattle.reports.specs.Stats.{stat_lines};
-ghost use Rattle.ddr_text.specs.ReportParts.{opening};
 ghost use Rattle.trace_replay.specs.Counts.{with_peak};
 ghost use Rattle.trace_replay.specs.Stop.{WriteCause};
 
 use crate::counts::Counts;
 use crate::stop::{Stop, put};
 use arrayvec::ArrayVec;
-use ddr_io::{OutOfMemory, Sink};
+use ddr_io::Sink;
 use ddr_text::{HeaderText, ReportLine, StatName, write_report_line};
 use error_scrub::ScrubCounts;
-use std::alloc::Global;
 
 /// Writes a line.
 #[tactic(auto, using(crate::proofs::Pieces::some_bytes))]
@@ -81,28 +79,16 @@ pub(crate) fn put_stats<K: Sink>(
     put_lines(&lines_of(counts, peak, scrub), sink)
 }
 
-/// Writes the text of the header and the line `---` as one piece.
-pub(crate) fn put_opening<K: Sink>(
-    alloc: Global,
-    text: &HeaderText,
-    sink: &mut K,
-) -> Result<(), Stop>
-    ensures whole { OnOk result (Appends (K.written sink.old) (K.written sink.new) (opening text.now)) }
-    ensures cut { IfErr result (λ stop. AppendsPrefix (K.written sink.old) (K.written sink.new) (opening text.now)) }
+/// Writes the text of the header and its separator as one piece.
+pub(crate) fn put_opening<K: Sink>(text: &HeaderText, sink: &mut K) -> Result<(), Stop>
+    ensures whole { OnOk result (Appends (K.written sink.old) (K.written sink.new) text.now) }
+    ensures cut { IfErr result (λ stop. AppendsPrefix (K.written sink.old) (K.written sink.new) text.now) }
     ensures later { K.faults sink.old ≤ K.faults sink.new }
     ensures cause { IfErr result (WriteCause (K.faults sink.old) (K.faults sink.new)) }
 {
-    match opening(alloc, text) {
-        Ok(piece) => put(sink, &piece),
-        Err(_) => Err(Stop::OutOfMemory),
+    let bytes = text.bytes();
+    if bytes.is_empty() {
+        return Ok(());
     }
-}
-
-// The text of the header, and the line `---`.
-fn opening(alloc: Global, text: &HeaderText) -> Result<Vec<u8>, OutOfMemory>
-    ensures { IfOk result (λ piece. piece.items ≡ opening text.now) }
-{
-    let mut piece = text.bytes().to_vec(alloc)?;
-    piece.extend_from_slice(b"---\n")?;
-    Ok(piece)
+    put(sink, bytes)
 }

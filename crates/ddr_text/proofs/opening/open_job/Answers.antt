@@ -5,4 +5,4 @@ use Rattle.ddr_text.proofs.opening.open_job.Goals as goal
 
 pub returns-in-Text-clause-taken : goal.returns-in-Text-clause-taken
 returns-in-Text-clause-taken g c =
-    taken-front _ _ c.in-Text.text c.judge.result (subst (IsFront _ _) c.in-Text.is c.in_ok-text.ensures.front)
+    taken-front _ _ c.in-Text.text c.in-Text.separator c.in-Text.version c.judge.result (subst (IsFront _ _) c.in-Text.is c.in_ok-text.ensures.front)

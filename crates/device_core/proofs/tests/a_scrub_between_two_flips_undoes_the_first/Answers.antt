@@ -11,25 +11,25 @@ play-requires g c = (small 16 3 8 16 1, [], c.in_ok-device.ensures, write_with_s
 pub turn-requires : goal.turn-requires
 turn-requires g c =
     let s1 = c.in_ok-play.ensures (small 16 3 8 16 1) [] c.in_ok-device.ensures (write_with_scrub_is_legal c.line_of-bytes.result) in
-    (small 16 3 8 16 1, _, s1, is_bit (small 16 3 8 16 1) 0 2 refl refl refl)
+    (small 16 3 8 16 1, _, s1, is_bit (small 16 3 8 16 1) 0 2 refl refl refl refl)
 
 pub play-requires-2 : goal.play-requires-2
 play-requires-2 g c =
     let s1 = c.in_ok-play.ensures (small 16 3 8 16 1) [] c.in_ok-device.ensures (write_with_scrub_is_legal c.line_of-bytes.result) in
-    let s2 = c.in_ok-turn.ensures (small 16 3 8 16 1) _ s1 (is_bit (small 16 3 8 16 1) 0 2 refl refl refl) in
+    let s2 = c.in_ok-turn.ensures (small 16 3 8 16 1) _ s1 (is_bit (small 16 3 8 16 1) 0 2 refl refl refl refl) in
     (small 16 3 8 16 1, _, s2, scrub_is_legal c.line_of-bytes.result)
 
 pub turn-requires-2 : goal.turn-requires-2
 turn-requires-2 g c =
     let s1 = c.in_ok-play.ensures (small 16 3 8 16 1) [] c.in_ok-device.ensures (write_with_scrub_is_legal c.line_of-bytes.result) in
-    let s2 = c.in_ok-turn.ensures (small 16 3 8 16 1) _ s1 (is_bit (small 16 3 8 16 1) 0 2 refl refl refl) in
+    let s2 = c.in_ok-turn.ensures (small 16 3 8 16 1) _ s1 (is_bit (small 16 3 8 16 1) 0 2 refl refl refl refl) in
     let s3 = c.in_ok-play-2.ensures (small 16 3 8 16 1) _ s2 (scrub_is_legal c.line_of-bytes.result) in
-    (small 16 3 8 16 1, _, s3, is_bit (small 16 3 8 16 1) 0 4 refl refl refl)
+    (small 16 3 8 16 1, _, s3, is_bit (small 16 3 8 16 1) 0 4 refl refl refl refl)
 
 pub play-requires-3 : goal.play-requires-3
 play-requires-3 g c =
     let s1 = c.in_ok-play.ensures (small 16 3 8 16 1) [] c.in_ok-device.ensures (write_with_scrub_is_legal c.line_of-bytes.result) in
-    let s2 = c.in_ok-turn.ensures (small 16 3 8 16 1) _ s1 (is_bit (small 16 3 8 16 1) 0 2 refl refl refl) in
+    let s2 = c.in_ok-turn.ensures (small 16 3 8 16 1) _ s1 (is_bit (small 16 3 8 16 1) 0 2 refl refl refl refl) in
     let s3 = c.in_ok-play-2.ensures (small 16 3 8 16 1) _ s2 (scrub_is_legal c.line_of-bytes.result) in
-    let s4 = c.in_ok-turn-2.ensures (small 16 3 8 16 1) _ s3 (is_bit (small 16 3 8 16 1) 0 4 refl refl refl) in
+    let s4 = c.in_ok-turn-2.ensures (small 16 3 8 16 1) _ s3 (is_bit (small 16 3 8 16 1) 0 4 refl refl refl refl) in
     (small 16 3 8 16 1, _, s4, read_after_scrub_is_legal c.line_of-bytes.result)

@@ -11,34 +11,34 @@ play-requires g c = (small 16 3 8 16 0, [], c.in_ok-device.ensures, write_is_leg
 pub turn-requires : goal.turn-requires
 turn-requires g c =
     let s1 = c.in_ok-play.ensures (small 16 3 8 16 0) [] c.in_ok-device.ensures (write_is_legal c.line_of-bytes.result) in
-    (small 16 3 8 16 0, _, s1, is_bit (small 16 3 8 16 0) 0 0 refl refl refl)
+    (small 16 3 8 16 0, _, s1, is_bit (small 16 3 8 16 0) 0 0 refl refl refl refl)
 
 pub turn-requires-2 : goal.turn-requires-2
 turn-requires-2 g c =
     let s1 = c.in_ok-play.ensures (small 16 3 8 16 0) [] c.in_ok-device.ensures (write_is_legal c.line_of-bytes.result) in
-    let s2 = c.in_ok-turn.ensures (small 16 3 8 16 0) _ s1 (is_bit (small 16 3 8 16 0) 0 0 refl refl refl) in
-    (small 16 3 8 16 0, _, s2, is_bit (small 16 3 8 16 0) 1 63 refl refl refl)
+    let s2 = c.in_ok-turn.ensures (small 16 3 8 16 0) _ s1 (is_bit (small 16 3 8 16 0) 0 0 refl refl refl refl) in
+    (small 16 3 8 16 0, _, s2, is_bit (small 16 3 8 16 0) 1 63 refl refl refl refl)
 
 pub turn-requires-3 : goal.turn-requires-3
 turn-requires-3 g c =
     let s1 = c.in_ok-play.ensures (small 16 3 8 16 0) [] c.in_ok-device.ensures (write_is_legal c.line_of-bytes.result) in
-    let s2 = c.in_ok-turn.ensures (small 16 3 8 16 0) _ s1 (is_bit (small 16 3 8 16 0) 0 0 refl refl refl) in
-    let s3 = c.in_ok-turn-2.ensures (small 16 3 8 16 0) _ s2 (is_bit (small 16 3 8 16 0) 1 63 refl refl refl) in
-    (small 16 3 8 16 0, _, s3, is_bit (small 16 3 8 16 0) 2 127 refl refl refl)
+    let s2 = c.in_ok-turn.ensures (small 16 3 8 16 0) _ s1 (is_bit (small 16 3 8 16 0) 0 0 refl refl refl refl) in
+    let s3 = c.in_ok-turn-2.ensures (small 16 3 8 16 0) _ s2 (is_bit (small 16 3 8 16 0) 1 63 refl refl refl refl) in
+    (small 16 3 8 16 0, _, s3, is_bit (small 16 3 8 16 0) 2 127 refl refl refl refl)
 
 pub turn-requires-4 : goal.turn-requires-4
 turn-requires-4 g c =
     let s1 = c.in_ok-play.ensures (small 16 3 8 16 0) [] c.in_ok-device.ensures (write_is_legal c.line_of-bytes.result) in
-    let s2 = c.in_ok-turn.ensures (small 16 3 8 16 0) _ s1 (is_bit (small 16 3 8 16 0) 0 0 refl refl refl) in
-    let s3 = c.in_ok-turn-2.ensures (small 16 3 8 16 0) _ s2 (is_bit (small 16 3 8 16 0) 1 63 refl refl refl) in
-    let s4 = c.in_ok-turn-3.ensures (small 16 3 8 16 0) _ s3 (is_bit (small 16 3 8 16 0) 2 127 refl refl refl) in
-    (small 16 3 8 16 0, _, s4, is_bit (small 16 3 8 16 0) 3 135 refl refl refl)
+    let s2 = c.in_ok-turn.ensures (small 16 3 8 16 0) _ s1 (is_bit (small 16 3 8 16 0) 0 0 refl refl refl refl) in
+    let s3 = c.in_ok-turn-2.ensures (small 16 3 8 16 0) _ s2 (is_bit (small 16 3 8 16 0) 1 63 refl refl refl refl) in
+    let s4 = c.in_ok-turn-3.ensures (small 16 3 8 16 0) _ s3 (is_bit (small 16 3 8 16 0) 2 127 refl refl refl refl) in
+    (small 16 3 8 16 0, _, s4, is_bit (small 16 3 8 16 0) 3 135 refl refl refl refl)
 
 pub play-requires-2 : goal.play-requires-2
 play-requires-2 g c =
     let s1 = c.in_ok-play.ensures (small 16 3 8 16 0) [] c.in_ok-device.ensures (write_is_legal c.line_of-bytes.result) in
-    let s2 = c.in_ok-turn.ensures (small 16 3 8 16 0) _ s1 (is_bit (small 16 3 8 16 0) 0 0 refl refl refl) in
-    let s3 = c.in_ok-turn-2.ensures (small 16 3 8 16 0) _ s2 (is_bit (small 16 3 8 16 0) 1 63 refl refl refl) in
-    let s4 = c.in_ok-turn-3.ensures (small 16 3 8 16 0) _ s3 (is_bit (small 16 3 8 16 0) 2 127 refl refl refl) in
-    let s5 = c.in_ok-turn-4.ensures (small 16 3 8 16 0) _ s4 (is_bit (small 16 3 8 16 0) 3 135 refl refl refl) in
+    let s2 = c.in_ok-turn.ensures (small 16 3 8 16 0) _ s1 (is_bit (small 16 3 8 16 0) 0 0 refl refl refl refl) in
+    let s3 = c.in_ok-turn-2.ensures (small 16 3 8 16 0) _ s2 (is_bit (small 16 3 8 16 0) 1 63 refl refl refl refl) in
+    let s4 = c.in_ok-turn-3.ensures (small 16 3 8 16 0) _ s3 (is_bit (small 16 3 8 16 0) 2 127 refl refl refl refl) in
+    let s5 = c.in_ok-turn-4.ensures (small 16 3 8 16 0) _ s4 (is_bit (small 16 3 8 16 0) 3 135 refl refl refl refl) in
     (small 16 3 8 16 0, _, s5, read_of_four_is_legal c.line_of-bytes.result)

@@ -5,5 +5,6 @@ abbrev pub invariant-loop-step : goal.invariant-loop-step
 invariant-loop-step l = record {
   ath : l.counts.ath ≡ 64;
   rows : l.counts.order.rows ≡ 64;
+  levels : 66 ≤ l.counts.order.levels;
   changes : l.counts.changes ≤ l.step;
 }

@@ -5,5 +5,6 @@ abbrev pub invariant-loop-number : goal.invariant-loop-number
 invariant-loop-number l = record {
   ath : l.counts.ath ≡ l.settings.ath;
   rows : l.counts.order.rows ≡ l.settings.rows;
+  levels : l.settings.ath + 2 ≤ l.counts.order.levels;
   changes : l.counts.changes ≤ l.initial.counts.changes + l.number-index;
 }

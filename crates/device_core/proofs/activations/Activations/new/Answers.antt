@@ -7,7 +7,7 @@ use Rattle.device_core.proofs.activations.Activations.new.Goals as goal
 
 pub new-requires-clause-thresholds : goal.new-requires-clause-thresholds
 unfolding spare
-new-requires-clause-thresholds c = c.requires.checks.thresholds
+new-requires-clause-thresholds c = let t = c.requires.checks.thresholds in let some = c.requires.version.0 in (omega (arith, t.0, some), t.1)
 
 pub loop-preserved : goal.loop-preserved
 loop-preserved c =
@@ -17,7 +17,7 @@ loop-preserved c =
     record {
       long = ap (λ (xs : List BankRows). length xs) items ∙ (omega (arith, long, appended));
       fresh = λ b low. subst (λ (xs : List BankRows). BankFor (bank_at xs b) c.args.header.now b []) (sym items)
-          (pushed c.loop.banks.items c.in_ok-rows.rows c.args.header.now c.loop.counter long c.loop.invariant.fresh (c.in_ok-rows.ensures c.args.header.now c.loop.counter refl) b low);
+          (pushed c.loop.banks.items c.in_ok-rows.rows c.args.header.now c.loop.counter long c.loop.invariant.fresh (c.in_ok-rows.ensures c.args.header.now c.loop.counter refl refl) b low);
     }
 
 pub returns : goal.returns

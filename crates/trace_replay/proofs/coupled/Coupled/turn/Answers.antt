@@ -12,7 +12,7 @@ pub returns-clause-after : goal.returns-clause-after
 unfolding StandsFor controller_of pending_of
 returns-clause-after c = λ h offered idle steps s.
     after_turn c.next-turn.result _ _ _ h c.args.self.now c.next-turn.new.self c.pending_in-self.result offered idle steps
-    (record { inside = c.inside.ensures.row; newest = c.passed.ensures.newest; near = c.passed.ensures.near })
+    (record { inside = c.inside.ensures.row; own = c.inside.ensures.bank; newest = c.passed.ensures.newest; near = c.passed.ensures.near })
     c.requires.pending s
     (c.next-turn.ensures.after h offered idle (controller_steps steps) (unpended c.args.self.now h offered idle steps c.requires.pending s) (told c.args.self.now h offered idle steps s))
     c.pending_in-self.ensures
