@@ -10,7 +10,7 @@ use Rattle.ddr_text.specs.Spelling.{spelled}
 use Rattle.ddr_text.specs.declared.lines.LineFault.{LineFault}
 use Rattle.ddr_text.specs.declared.lines.LineFault.TheVariants.{Empty, Letter, Fields, Number, Range, Hex, Word}
 use Rattle.ddr_text.specs.declared.lines.TraceLine.{TraceLine}
-use Rattle.requests.specs.Queue.{shape_of}
+use Rattle.speed_bin.specs.Header.{shape_of}
 use Rattle.speed_bin.specs.declared.header.Header.{Header}
 use Rattle.reports.specs.Barriers.{idle_clocks}
 use Rattle.ddr_text.specs.ReportParts.{Refusal}

@@ -17,9 +17,8 @@ use Rattle.error_scrub.specs.declared.scrub.ScrubCounts.{ScrubCounts}
 use Rattle.log_auditor.specs.Findings.{Answers, breach_at, breach_of, end_of, fine_or, finding_of, finding_text, found_behind, found_in, is_fine, log_of as judged_log, numbers_from, on_line, status_of}
 use Rattle.log_auditor.specs.Reading.{lines_in}
 use Rattle.log_auditor.specs.declared.report_reader.Stage.TheVariants.{Body}
-use Rattle.requests.specs.Queue.{shape_of}
 use Rattle.speed_bin.specs.Counts.{LogCounts}
-use Rattle.speed_bin.specs.Header.{IsAccepted}
+use Rattle.speed_bin.specs.Header.{IsAccepted, shape_of}
 use Rattle.speed_bin.specs.Rules.{verdict_at_end}
 use Rattle.speed_bin.specs.declared.header.Header.{Header}
 use Rattle.reports.specs.Barriers.{idle_clocks}

@@ -13,13 +13,13 @@ use Rattle.speed_bin.specs.Alert.{alert}
 use Rattle.speed_bin.specs.Counters.{Counter, acts, acts_after, counters, is_row, mitigated}
 use Rattle.speed_bin.specs.Counts.{alerts, acts_opened, commands, peak}
 use Rattle.speed_bin.specs.Gap.{n_max}
-use Rattle.speed_bin.specs.Header.{IsAccepted}
-use Rattle.speed_bin.specs.Kinds.{Effect, Opens, Closes, Manages, Refreshes, Leaves, effect, is_scrub}
+use Rattle.speed_bin.specs.Header.{IsAccepted, shape_of}
+use Rattle.command_words.specs.Kinds.{Effect, Opens, Closes, Manages, Refreshes, Leaves, effect, is_scrub}
 use Rattle.speed_bin.specs.Log.{Log, scrubs as scrubs_in}
 use Rattle.speed_bin.specs.declared.header.Header.{Header}
 use Rattle.error_scrub.specs.Scrubbing.{Step as Visit, fixed_in, lost_in, found_of, lost_of, visit_length, visit_of, worst_of, is_fixed, is_lost, line_after}
 use Rattle.device_core.specs.Steps.{Step as DeviceStep, Issues as Gives, Flips as Turns, log_of as device_log}
-use Rattle.device_core.specs.Stored.{changes_of, scrub_counts, shape, visits, words_after}
+use Rattle.device_core.specs.Stored.{changes_of, scrub_counts, visits, words_after}
 use Rattle.reports.specs.Barriers.{idle_clocks}
 use Rattle.reports.specs.Requests.{requests, requests_from}
 use Rattle.reports.specs.Runs.{Run, log_of}
@@ -120,11 +120,11 @@ scrub-step : (g : Shape) (b : Bool) (most : ℕ) (words : Visit) (log : List Vis
 scrub-step g true most words log four f = step-few g most words log four f
 scrub-step g false most words log four f = more-few g most (most + 8) log (omega arith) f
 
-visits-few : (h : Header) (steps : List DeviceStep) → AreFew (shape h) (8 * length (device_log steps)) (visits h steps)
+visits-few : (h : Header) (steps : List DeviceStep) → AreFew (shape_of h) (8 * length (device_log steps)) (visits h steps)
 visits-few h [] = record { found = omega arith; lost = omega arith; visit = omega arith; worst = omega arith }
 visits-few h (Gives delivered ∷ steps) =
-    more-few (shape h) (8 * length (device_log steps) + 8) (8 * suc (length (device_log steps))) (visits h (Gives delivered ∷ steps)) (omega arith)
-    (scrub-step (shape h) (is_scrub delivered.issued.command) (8 * length (device_log steps)) (words_after (changes_of h steps) (line_after (shape h) (scrubs_in (device_log steps)))) (visits h steps) refl (visits-few h steps))
+    more-few (shape_of h) (8 * length (device_log steps) + 8) (8 * suc (length (device_log steps))) (visits h (Gives delivered ∷ steps)) (omega arith)
+    (scrub-step (shape_of h) (is_scrub delivered.issued.command) (8 * length (device_log steps)) (words_after (changes_of h steps) (line_after (shape_of h) (scrubs_in (device_log steps)))) (visits h steps) refl (visits-few h steps))
 visits-few h (Turns place device bit ∷ steps) = visits-few h steps
 
 -- the counts of the scrub that an S line tells are at most so many

@@ -15,12 +15,12 @@ use Rattle.ddr_text.specs.declared.lines.TraceLine.{TraceLine}
 use Rattle.ddr_text.specs.declared.lines.TraceLine.TheVariants.{Read, Write, Flip, Idle}
 use Rattle.log_auditor.specs.Reading.{stage_after}
 use Rattle.log_auditor.specs.declared.report_reader.Stage.TheVariants.{Body}
-use Rattle.requests.specs.Queue.{shape_of}
-use Rattle.speed_bin.specs.Header.{IsAccepted}
+use Rattle.speed_bin.specs.Header.{IsAccepted, shape_of}
 use Rattle.speed_bin.specs.declared.header.Header.{Header}
 use Rattle.reports.specs.Delivered.{IsInside, AreInside}
 use Rattle.reports.specs.Readings.{changes_before}
-use Rattle.reports.specs.Report.{answer, last_clock, flip_lines, latest, report}
+use Rattle.reports.specs.Report.{answer, flip_lines, latest, report}
+use Rattle.speed_bin.specs.Log.{last_clock}
 use Rattle.reports.specs.Requests.{Request, is_reading, reads, requests, requests_from}
 use Rattle.reports.specs.Runs.{Step, Issues, Flips, Run, log_of, is_served, ready, held}
 use Rattle.reports.specs.Sound.{Sound}

@@ -8,10 +8,9 @@ use Rattle.device_core.specs.Steps.{log_of as device_log}
 use Rattle.device_core.specs.Stored.{scrub_counts}
 use Rattle.error_scrub.specs.declared.scrub.ScrubCounts.{ScrubCounts}
 use Rattle.log_auditor.specs.declared.report_reader.Stage.TheVariants.{Body, Counts, Ended, Closed}
-use Rattle.requests.specs.Queue.{shape_of}
 use Rattle.speed_bin.specs.Counts.{LogCounts, log_counts}
-use Rattle.speed_bin.specs.Header.{IsAccepted}
-use Rattle.speed_bin.specs.Kinds.{is_act, is_rd, is_wr, is_precharge, is_ref_all, is_ref_same, is_rfm_all, is_rfm_same, is_scrub}
+use Rattle.speed_bin.specs.Header.{IsAccepted, shape_of}
+use Rattle.command_words.specs.Kinds.{is_act, is_rd, is_wr, is_precharge, is_ref_all, is_ref_same, is_rfm_all, is_rfm_same, is_scrub}
 use Rattle.speed_bin.specs.declared.header.Header.{Header}
 use Rattle.reports.specs.Delivered.{device_steps}
 use Rattle.reports.specs.Report.{report}

@@ -5,7 +5,7 @@ use Rattle.ddr_io.specs.declared.status.Status.{Status}
 use Rattle.ddr_io.specs.declared.status.Status.TheVariants as status
 use Rattle.ddr_text.specs.declared.lines.TraceLine.{TraceLine}
 use Rattle.log_auditor.specs.Findings.{finding_of, finding_text, is_fine, status_of}
-use Rattle.requests.specs.Queue.{shape_of}
+use Rattle.speed_bin.specs.Header.{shape_of}
 use Rattle.speed_bin.specs.declared.header.Header.{Header}
 use Rattle.reports.specs.Barriers.{idle_clocks}
 use Rattle.reports.specs.Delivered.{AreInside}

@@ -3,7 +3,7 @@ use Rattle.std.proofs.Common.{◌≡◌, ◌∙◌, ℕ, zero, suc, ◌<◌, ◌
 use Rattle.command_words.specs.declared.command.Command.{Command}
 use Rattle.command_words.specs.declared.command.Command.TheVariants.{Act, Rd, Wr, PrePb, PreSb, PreAb, RefAb, RefSb, RfmAb, RfmSb, Mrw, Ecs, Nop}
 use Rattle.speed_bin.specs.Below.{any_below}
-use Rattle.speed_bin.specs.Kinds.{Effect, Opens, Manages, Refreshes, Leaves, effect, is_precharge, is_rfm_all}
+use Rattle.command_words.specs.Kinds.{Effect, Opens, Manages, Refreshes, Leaves, effect, is_precharge, is_rfm_all}
 use Rattle.speed_bin.specs.Log.{Log, open_at}
 use Rattle.speed_bin.specs.Alert.{alert, alert_after, closes, closes_some, is_hot}
 use Rattle.speed_bin.specs.declared.header.Header.{Header}

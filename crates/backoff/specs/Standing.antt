@@ -1,6 +1,6 @@
 -- What an alert says of a log.
 use Rattle.std.specs.Prelude.{◌≡◌, ℕ, ◌<◌, ◌^◌, [], ◌∷◌, Option, IsTrue, ⊤}
-use Rattle.speed_bin.specs.Kinds.{is_precharge}
+use Rattle.command_words.specs.Kinds.{is_precharge}
 use Rattle.speed_bin.specs.Log.{Log}
 use Rattle.speed_bin.specs.Alert.{alert}
 use Rattle.speed_bin.specs.declared.header.Header.{Header}

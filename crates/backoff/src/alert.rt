@@ -3,7 +3,7 @@ ghost use Rattle.std.specs.Prelude.{◌≡◌, ℕ, ◌+◌, ◌^◌, ◌<◌, �
 ghost use Rattle.command_words.specs.declared.command.Command.{Command as AnyCommand};
 ghost use Rattle.command_words.specs.declared.command.Command.TheVariants.{RfmAb};
 ghost use Rattle.speed_bin.specs.declared.header.Header.{Header as AnyHeader};
-ghost use Rattle.speed_bin.specs.Kinds.{is_precharge, is_rfm_all};
+ghost use Rattle.command_words.specs.Kinds.{is_precharge, is_rfm_all};
 ghost use Rattle.speed_bin.specs.Log.{Log};
 ghost use Rattle.speed_bin.specs.Alert.{alert, alert_after, closes_some, is_hot};
 ghost use Rattle.speed_bin.specs.Rules.{after};

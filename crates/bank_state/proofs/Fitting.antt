@@ -5,7 +5,7 @@ use Rattle.command_words.specs.declared.command.Command.{Command}
 use Rattle.command_words.specs.declared.command.Command.TheVariants.{Act, Rd, Wr, RefAb, RefSb, RfmAb, RfmSb, Mrw, Ecs}
 use Rattle.command_words.specs.declared.command.Mrw.{Mrw as Write}
 use Rattle.speed_bin.specs.Below.{all_below}
-use Rattle.speed_bin.specs.Kinds.{is_act, is_rd, is_wr}
+use Rattle.command_words.specs.Kinds.{is_act, is_rd, is_wr}
 use Rattle.speed_bin.specs.Log.{Log, open_at}
 use Rattle.speed_bin.specs.Rules.{rule_4, rule_5, all_closed}
 use Rattle.bank_state.specs.declared.fault.StateFault.{StateFault}

@@ -4,7 +4,7 @@ use Rattle.command_words.specs.Command.{bank_number}
 use Rattle.command_words.specs.declared.place.Bank.{Bank}
 use Rattle.command_words.specs.declared.command.Command.{Command}
 use Rattle.command_words.specs.declared.command.Command.TheVariants.{Act, PrePb, PreAb}
-use Rattle.speed_bin.specs.Kinds.{effect, Opens, Closes, Leaves}
+use Rattle.command_words.specs.Kinds.{effect, Opens, Closes, Leaves}
 use Rattle.speed_bin.specs.Log.{Log, open_after}
 use Rattle.bank_state.specs.Rows.{row_of}
 use Rattle.bank_state.specs.Standing.{StandsFor, Fits}

@@ -1,7 +1,7 @@
 //! The open row of each bank.
 ghost use Rattle.std.specs.Prelude.{◌≡◌, ℕ, ◌<◌, ◌∷◌, [], IsOk, IsTrue, ◌↔◌, false, ◌||◌, ◌&&◌, length, slice_set, replicate, None};
 ghost use Rattle.command_words.specs.Command.{bank_number, is_at};
-ghost use Rattle.speed_bin.specs.Kinds.{effect, is_act, is_rd, is_wr};
+ghost use Rattle.command_words.specs.Kinds.{effect, is_act, is_rd, is_wr};
 ghost use Rattle.speed_bin.specs.Log.{Log, Issued, open_at, open_after};
 ghost use Rattle.speed_bin.specs.Rules.{rule_4, rule_5, all_closed};
 ghost use Rattle.bank_state.specs.Rows.{row_of};

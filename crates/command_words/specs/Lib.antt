@@ -1,4 +1,5 @@
 pub mod Command
+pub mod Kinds
 pub mod Geometry
 pub mod Place
 pub mod Words

@@ -19,7 +19,7 @@ use Rattle.ddr_text.specs.declared.lines.ReportLine.TheVariants.{Refused}
 use Rattle.ddr_text.specs.declared.opening.Opening.{Opening}
 use Rattle.ddr_text.specs.declared.opening.Opening.TheVariants.{Accepted, Refused as RefusedOpening}
 use Rattle.speed_bin.specs.declared.header.Header.{Header}
-use Rattle.log_auditor.specs.Auditing.{shape_of}
+use Rattle.speed_bin.specs.Header.{shape_of}
 use Rattle.log_auditor.specs.Findings.{ReadsAll}
 use Rattle.log_auditor.specs.Progress.{with_lines}
 use Rattle.log_auditor.specs.Reading.{IsStep, Lines, Place, StepsOn, lines_left, refusal_at, with_line}

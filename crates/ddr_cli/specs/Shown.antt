@@ -17,7 +17,7 @@ use Rattle.ddr_text.specs.ReportParts.{Refusal}
 use Rattle.ddr_text.specs.Spelling.{spelled}
 use Rattle.ddr_text.specs.declared.lines.ReportLine.{ReportLine}
 use Rattle.ddr_text.specs.declared.lines.ReportLine.TheVariants.{Issued, Value, Flip, Stat, End, Refused}
-use Rattle.log_auditor.specs.Auditing.{shape_of}
+use Rattle.speed_bin.specs.Header.{shape_of}
 use Rattle.log_auditor.specs.Findings.{ReadsAll}
 use Rattle.log_auditor.specs.Progress.{with_lines}
 use Rattle.log_auditor.specs.Reading.{Lines, Place, lines_in, lines_left}

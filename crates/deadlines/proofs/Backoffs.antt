@@ -4,14 +4,13 @@ use Rattle.std.proofs.Math.Nat.{mul-le-mul_right}
 use Rattle.command_words.specs.declared.command.Command.{Command}
 use Rattle.command_words.specs.declared.command.Command.TheVariants.{RfmAb, PreAb}
 use Rattle.speed_bin.specs.declared.header.Header.{Header}
-use Rattle.speed_bin.specs.Log.{Issued, Log}
-use Rattle.speed_bin.specs.Kinds.{needs_closed, is_precharge, is_rfm_all, is_act, is_mrw}
+use Rattle.speed_bin.specs.Log.{Issued, Log, last_clock}
+use Rattle.command_words.specs.Kinds.{needs_closed, is_precharge, is_rfm_all, is_act, is_mrw}
 use Rattle.speed_bin.specs.Alert.{closes_some, is_hot, alert_after, alert}
 use Rattle.speed_bin.specs.Rules.{rule_13, until, after}
 use Rattle.speed_bin.specs.Gap.{n_max, n_col, n_close, n_tail}
 use Rattle.requests.specs.Choice.{IsSoonest}
 use Rattle.requests.specs.Owed.{is_column, owed_count}
-use Rattle.deadlines.specs.Blocking.{last_clock}
 use Rattle.deadlines.specs.declared.task.Task.{Task}
 use Rattle.deadlines.specs.declared.task.Task.TheVariants.{RfmAll, Ecs as Scrub, RefAll, RefSame, RfmSame}
 use Rattle.deadlines.specs.Stages.{Stage}

@@ -6,7 +6,7 @@ use Rattle.command_words.specs.declared.command.Command.{Command}
 use Rattle.command_words.specs.declared.command.Command.TheVariants.{Act, Rd, Wr, PrePb, PreSb, PreAb, RefAb, RefSb, RfmAb, RfmSb, Mrw, Ecs, Nop}
 use Rattle.speed_bin.specs.declared.header.Header.{Header}
 use Rattle.speed_bin.specs.Log.{Log, refs, scrubs}
-use Rattle.speed_bin.specs.Kinds.{is_act, is_precharge, is_rfm_all, is_rfm_same, is_mrw, is_nop, is_scrub}
+use Rattle.command_words.specs.Kinds.{is_act, is_precharge, is_rfm_all, is_rfm_same, is_mrw, is_nop, is_scrub}
 use Rattle.speed_bin.specs.Gap.{n_max}
 use Rattle.speed_bin.specs.Counts.{commands}
 use Rattle.requests.specs.Owed.{is_column}

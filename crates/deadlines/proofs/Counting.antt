@@ -6,7 +6,7 @@ use Rattle.command_words.specs.declared.command.Command.{Command}
 use Rattle.command_words.specs.declared.command.Command.TheVariants.{Act, Rd, Wr, RfmAb, RfmSb}
 use Rattle.speed_bin.specs.declared.header.Header.{Header}
 use Rattle.speed_bin.specs.Log.{Issued, Log, open_at, raa, raa_after}
-use Rattle.speed_bin.specs.Kinds.{Effect, Opens, Closes, Manages, Refreshes, Leaves, effect, is_act, is_precharge, is_rfm_all, is_rfm_same}
+use Rattle.command_words.specs.Kinds.{Effect, Opens, Closes, Manages, Refreshes, Leaves, effect, is_act, is_precharge, is_rfm_all, is_rfm_same}
 use Rattle.speed_bin.specs.Alert.{alert}
 use Rattle.speed_bin.specs.Weights.{sum_below}
 use Rattle.speed_bin.proofs.Sums.{one_change}

@@ -4,15 +4,15 @@ use Rattle.command_words.specs.declared.command.Command.{Command}
 use Rattle.command_words.specs.declared.command.Command.TheVariants.{Act}
 use Rattle.speed_bin.specs.declared.header.Header.{Header}
 use Rattle.speed_bin.specs.declared.timing.Timing.{Timing}
-use Rattle.speed_bin.specs.Log.{Issued, Log}
+use Rattle.speed_bin.specs.Log.{Issued, Log, last_clock}
 use Rattle.speed_bin.specs.Gap.{gap, n_max, n_col}
-use Rattle.speed_bin.specs.Kinds.{is_act, is_precharge, needs_closed}
+use Rattle.command_words.specs.Kinds.{is_act, is_precharge, needs_closed}
 use Rattle.speed_bin.specs.Rules.{rule_1, rule_2, rule_3, MayFollow}
 use Rattle.speed_bin.proofs.Tests.{joined}
 use Rattle.speed_bin.proofs.Effects.{gap_some, rule_2_head, rule_2_tail}
 use Rattle.requests.specs.Choice.{IsSoonest}
 use Rattle.requests.specs.Owed.{is_column}
-use Rattle.deadlines.specs.Blocking.{n_pre, last_clock, AllUpTo, AllRise}
+use Rattle.deadlines.specs.Blocking.{n_pre, AllUpTo, AllRise}
 use Rattle.deadlines.specs.Stages.{Closing}
 use Rattle.deadlines.proofs.Gaps.{gap_max, faw_max, gap_columns, gap_column_precharge, gap_column_closed, gap_precharge_any, col_parts, pre_parts}
 

@@ -4,7 +4,7 @@ use Rattle.command_words.specs.declared.command.Command.{Command}
 use Rattle.command_words.specs.declared.command.Command.TheVariants.{Rd, Wr, PrePb, PreSb, PreAb, RefAb, RefSb, RfmAb, RfmSb, Mrw, Ecs, Nop}
 use Rattle.speed_bin.specs.declared.timing.Timing.{Timing}
 use Rattle.speed_bin.specs.Gap.{greatest_clocks, Entry, greatest, meet, gap_table, gap, n_max, n_col, n_close}
-use Rattle.speed_bin.specs.Kinds.{is_precharge, needs_closed, is_ref_all, is_ref_same, is_scrub}
+use Rattle.command_words.specs.Kinds.{is_precharge, needs_closed, is_ref_all, is_ref_same, is_scrub}
 use Rattle.requests.specs.Owed.{is_column}
 use Rattle.deadlines.specs.Blocking.{n_pre}
 

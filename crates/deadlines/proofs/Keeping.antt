@@ -6,15 +6,14 @@ use Rattle.std.proofs.Math.Nat.{mul-le-mul_right}
 use Rattle.command_words.specs.declared.command.Command.{Command}
 use Rattle.command_words.specs.declared.command.Command.TheVariants.{RefAb, RefSb, Ecs}
 use Rattle.speed_bin.specs.declared.header.Header.{Header}
-use Rattle.speed_bin.specs.Log.{Issued, Log, refs, scrubs}
+use Rattle.speed_bin.specs.Log.{Issued, Log, refs, scrubs, last_clock}
 use Rattle.speed_bin.specs.Alert.{alert}
-use Rattle.speed_bin.specs.Kinds.{refreshes, is_scrub}
+use Rattle.command_words.specs.Kinds.{refreshes, is_scrub}
 use Rattle.speed_bin.specs.Rules.{is_on_time, rule_6, rule_7, rule_8}
 use Rattle.speed_bin.specs.Below.{all_below}
 use Rattle.speed_bin.proofs.Tests.{joined, all_below_from}
 use Rattle.speed_bin.specs.Gap.{n_max}
 use Rattle.requests.specs.Choice.{IsSoonest}
-use Rattle.deadlines.specs.Blocking.{last_clock}
 use Rattle.deadlines.specs.declared.task.Task.{Task}
 use Rattle.deadlines.specs.declared.task.Task.TheVariants.{RfmAll, Ecs as Scrub, RefAll, RefSame, RfmSame}
 use Rattle.deadlines.specs.Rounds.{next_due, ecs_due, Rounds, per_task}

@@ -4,10 +4,9 @@ use Rattle.std.proofs.Math.Nat.{mul-le-mul_left, div-mul-le_self}
 use Rattle.command_words.specs.declared.command.Command.{Command}
 use Rattle.speed_bin.specs.Gap.{n_max}
 use Rattle.speed_bin.specs.Header.{IsAccepted}
-use Rattle.speed_bin.specs.Log.{Log}
+use Rattle.speed_bin.specs.Log.{Log, last_clock}
 use Rattle.speed_bin.specs.declared.header.Header.{Header}
 use Rattle.requests.specs.Choice.{IsSoonest}
-use Rattle.deadlines.specs.Blocking.{last_clock}
 use Rattle.deadlines.specs.Standing.{Keeps}
 use Rattle.deadlines.specs.declared.task.Task.{Task}
 use Rattle.deadlines.proofs.Moves.{Slack}

@@ -7,7 +7,7 @@ use Rattle.command_words.specs.declared.command.Command.{Command}
 use Rattle.command_words.specs.declared.command.Command.TheVariants.{Act, PreAb}
 use Rattle.speed_bin.specs.Alert.{alert}
 use Rattle.speed_bin.specs.Gap.{n_max, n_close, n_tail}
-use Rattle.speed_bin.specs.Kinds.{Closes, effect, is_act, is_precharge, is_mrw, is_nop}
+use Rattle.command_words.specs.Kinds.{Closes, effect, is_act, is_precharge, is_mrw, is_nop}
 use Rattle.speed_bin.specs.Log.{Issued, Log, open_at, refs}
 use Rattle.speed_bin.specs.declared.header.Header.{Header}
 use Rattle.requests.specs.Choice.{IsSoonest}

@@ -6,7 +6,7 @@ use Rattle.command_words.specs.declared.command.Command.TheVariants.{RefAb, RefS
 use Rattle.speed_bin.specs.declared.header.Header.{Header}
 use Rattle.speed_bin.specs.declared.timing.Timing.{Timing}
 use Rattle.speed_bin.specs.Log.{Issued, Log, refs, scrubs}
-use Rattle.speed_bin.specs.Kinds.{is_act, refreshes}
+use Rattle.command_words.specs.Kinds.{is_act, refreshes}
 use Rattle.speed_bin.specs.Gap.{gap, n_max}
 use Rattle.speed_bin.specs.Rules.{rule_1, rule_2, rule_3, MayFollow}
 use Rattle.speed_bin.proofs.Tests.{joined}

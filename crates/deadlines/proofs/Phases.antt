@@ -5,7 +5,7 @@ use Rattle.command_words.specs.declared.command.Command.{Command}
 use Rattle.command_words.specs.declared.command.Command.TheVariants.{RefAb, RefSb, RfmAb, RfmSb, Ecs, Mrw}
 use Rattle.speed_bin.specs.declared.header.Header.{Header}
 use Rattle.speed_bin.specs.Log.{Issued, Log, open_after, open_at, refs}
-use Rattle.speed_bin.specs.Kinds.{Effect, Opens, Closes, Manages, Refreshes, Leaves, effect, is_act, is_precharge, needs_closed, is_rfm_all}
+use Rattle.command_words.specs.Kinds.{Effect, Opens, Closes, Manages, Refreshes, Leaves, effect, is_act, is_precharge, needs_closed, is_rfm_all}
 use Rattle.speed_bin.specs.Alert.{closes, closes_some, alert_after, alert}
 use Rattle.speed_bin.specs.Gap.{gap, n_max, n_col}
 use Rattle.speed_bin.proofs.Tests.{any_below_none}

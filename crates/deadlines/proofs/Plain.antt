@@ -3,12 +3,12 @@ use Rattle.std.proofs.Common.{◌≡◌, ◌∙◌, ℕ, zero, suc, ◌+◌, ◌
 use Rattle.command_words.specs.declared.command.Command.{Command}
 use Rattle.command_words.specs.declared.command.Command.TheVariants.{RefAb, RefSb, Ecs, Act, PreAb}
 use Rattle.speed_bin.specs.declared.header.Header.{Header}
-use Rattle.speed_bin.specs.Log.{Issued, Log, open_at, refs, scrubs}
-use Rattle.speed_bin.specs.Kinds.{is_act, is_mrw, is_precharge}
+use Rattle.speed_bin.specs.Log.{Issued, Log, open_at, refs, scrubs, last_clock}
+use Rattle.command_words.specs.Kinds.{is_act, is_mrw, is_precharge}
 use Rattle.speed_bin.specs.Gap.{n_max}
 use Rattle.requests.specs.Choice.{IsSoonest}
 use Rattle.requests.specs.Owed.{is_column}
-use Rattle.deadlines.specs.Blocking.{last_clock, AllRise}
+use Rattle.deadlines.specs.Blocking.{AllRise}
 use Rattle.deadlines.specs.declared.task.Task.{Task}
 use Rattle.deadlines.proofs.Moves.{Advances, Column, Shut, Slack, Decides, Backs_off, Goes_on, Scrubs, Refreshes_all, Refreshes_same, Manages_same}
 use Rattle.deadlines.specs.Rounds.{next_due, ecs_due, Rounds, per_task, limit}

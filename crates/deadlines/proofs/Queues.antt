@@ -6,7 +6,7 @@ use Rattle.command_words.specs.declared.command.Command.{Command}
 use Rattle.command_words.specs.declared.command.Command.TheVariants.{Act}
 use Rattle.speed_bin.specs.declared.header.Header.{Header}
 use Rattle.speed_bin.specs.Log.{Issued, Log}
-use Rattle.speed_bin.specs.Kinds.{is_act, is_mrw, is_nop, effect, Leaves}
+use Rattle.command_words.specs.Kinds.{is_act, is_mrw, is_nop, effect, Leaves}
 use Rattle.speed_bin.specs.Counts.{commands}
 use Rattle.requests.specs.Owed.{is_column, owed_after, owed}
 use Rattle.deadlines.specs.Counts.{Works, Job}

@@ -6,7 +6,7 @@ use Rattle.command_words.specs.declared.command.Command.{Command}
 use Rattle.command_words.specs.declared.command.Command.TheVariants.{Act, Rd, Wr, PrePb, PreSb, PreAb, RefSb, RfmAb, RfmSb, Mrw, Nop}
 use Rattle.speed_bin.specs.Alert.{alert}
 use Rattle.speed_bin.specs.Below.{any_below}
-use Rattle.speed_bin.specs.Kinds.{Closes, Manages, effect, is_act, is_precharge, is_rfm_all, is_rfm_same, is_mrw, is_nop, Leaves}
+use Rattle.command_words.specs.Kinds.{Closes, Manages, effect, is_act, is_precharge, is_rfm_all, is_rfm_same, is_mrw, is_nop, Leaves}
 use Rattle.speed_bin.specs.Log.{Issued, Log, open_at, raa}
 use Rattle.speed_bin.specs.Rules.{rule_10, is_wanted}
 use Rattle.speed_bin.specs.declared.header.Header.{Header}

@@ -6,7 +6,7 @@ use Rattle.command_words.specs.declared.command.Command.{Command}
 use Rattle.command_words.specs.declared.command.Command.TheVariants.{RefAb, RefSb, Ecs}
 use Rattle.speed_bin.specs.declared.header.Header.{Header}
 use Rattle.speed_bin.specs.Log.{Issued, Log, refs, scrubs}
-use Rattle.speed_bin.specs.Kinds.{refreshes, is_scrub}
+use Rattle.command_words.specs.Kinds.{refreshes, is_scrub}
 use Rattle.speed_bin.specs.Gap.{n_max, n_col, n_close, n_tail}
 use Rattle.deadlines.specs.Rounds.{next_due, Rounds, round, per_task, limit}
 use Rattle.deadlines.proofs.Moves.{Slack}

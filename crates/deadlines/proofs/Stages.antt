@@ -6,13 +6,13 @@ use Rattle.command_words.specs.declared.command.Command.{Command}
 use Rattle.command_words.specs.declared.command.Command.TheVariants.{Rd, Wr, Nop}
 use Rattle.speed_bin.specs.declared.header.Header.{Header}
 use Rattle.speed_bin.specs.declared.timing.Timing.{Timing}
-use Rattle.speed_bin.specs.Log.{Issued, Log, open_after, open_at}
-use Rattle.speed_bin.specs.Kinds.{Effect, Opens, Closes, Manages, Refreshes, Leaves, effect, is_act, is_precharge, needs_closed}
+use Rattle.speed_bin.specs.Log.{Issued, Log, open_after, open_at, last_clock}
+use Rattle.command_words.specs.Kinds.{Effect, Opens, Closes, Manages, Refreshes, Leaves, effect, is_act, is_precharge, needs_closed}
 use Rattle.speed_bin.proofs.Effects.{opens_act, gap_some}
 use Rattle.speed_bin.specs.Gap.{n_max, n_col, n_close}
 use Rattle.requests.specs.Choice.{IsSoonest}
 use Rattle.requests.specs.Owed.{is_column, owed_after, owed, count_below, owed_count}
-use Rattle.deadlines.specs.Blocking.{n_pre, last_clock, AllUpTo}
+use Rattle.deadlines.specs.Blocking.{n_pre, AllUpTo}
 use Rattle.deadlines.specs.declared.task.Task.{Task}
 use Rattle.deadlines.specs.Tasks.{task_covers}
 use Rattle.deadlines.specs.Stages.{Stage, Before, After}

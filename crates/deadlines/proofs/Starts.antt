@@ -2,13 +2,13 @@
 use Rattle.std.proofs.Common.{◌≡◌, ℕ, ◌+◌, ◌*◌, ◌≤◌, ◌<◌, Bool, true, false, ◌⊎◌, inl, inr, refl, arith, max, Option, Some, None}
 use Rattle.command_words.specs.declared.command.Command.{Command}
 use Rattle.speed_bin.specs.declared.header.Header.{Header}
-use Rattle.speed_bin.specs.Log.{Log}
-use Rattle.speed_bin.specs.Kinds.{needs_closed}
+use Rattle.speed_bin.specs.Log.{Log, last_clock}
+use Rattle.command_words.specs.Kinds.{needs_closed}
 use Rattle.speed_bin.specs.Alert.{alert}
 use Rattle.speed_bin.specs.Gap.{n_max, n_col, n_close}
 use Rattle.speed_bin.specs.Rules.{MayFollow}
 use Rattle.requests.specs.Owed.{owed_count}
-use Rattle.deadlines.specs.Blocking.{last_clock, AllRise}
+use Rattle.deadlines.specs.Blocking.{AllRise}
 use Rattle.deadlines.specs.declared.task.Task.{Task}
 use Rattle.deadlines.specs.declared.task.Task.TheVariants.{RfmAll, Ecs as Scrub, RefAll, RefSame, RfmSame}
 use Rattle.deadlines.specs.Stages.{Stage, Before, After}

@@ -2,11 +2,10 @@
 use Rattle.std.proofs.Common.{◌≡◌, ◌≢◌, ◌∙◌, ℕ, zero, suc, ◌+◌, ◌*◌, ◌/◌, ◌%◌, ◌≤◌, ◌<◌, true, false, ◌⊎◌, inl, inr, refl, sym, ap, arith, ◌∷◌, Option, Some, None, eq-eqb}
 use Rattle.command_words.specs.Command.{is_at}
 use Rattle.speed_bin.specs.declared.header.Header.{Header}
-use Rattle.speed_bin.specs.Log.{Issued, Log, open_at, refs, scrubs}
-use Rattle.speed_bin.specs.Kinds.{is_act}
+use Rattle.speed_bin.specs.Log.{Issued, Log, open_at, refs, scrubs, last_clock}
+use Rattle.command_words.specs.Kinds.{is_act}
 use Rattle.speed_bin.specs.Alert.{alert}
 use Rattle.requests.specs.Choice.{IsSoonest}
-use Rattle.deadlines.specs.Blocking.{last_clock}
 use Rattle.deadlines.specs.declared.task.Task.{Task}
 use Rattle.deadlines.specs.declared.task.Task.TheVariants.{RfmAll, Ecs as Scrub, RefAll, RefSame, RfmSame}
 use Rattle.deadlines.proofs.Moves.{Slack, Decides, Backs_off, Goes_on, Scrubs, Refreshes_all, Refreshes_same, Manages_same, Issues, Writes, Serves, Ends, Freely, Finally}

@@ -6,7 +6,7 @@ use Rattle.speed_bin.specs.Alert.{alert}
 use Rattle.speed_bin.specs.Below.{all_below}
 use Rattle.speed_bin.specs.Gap.{n_max}
 use Rattle.speed_bin.specs.Header.{IsAccepted}
-use Rattle.speed_bin.specs.Kinds.{is_act, is_mrw, is_precharge, is_rfm_all, refreshes}
+use Rattle.command_words.specs.Kinds.{is_act, is_mrw, is_precharge, is_rfm_all, refreshes}
 use Rattle.speed_bin.specs.Log.{Issued, Log, refs}
 use Rattle.speed_bin.specs.Rules.{is_on_time, rule_6, rule_7, rule_8, rule_13}
 use Rattle.speed_bin.specs.declared.header.Header.{Header}

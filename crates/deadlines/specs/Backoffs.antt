@@ -2,10 +2,10 @@
 use Rattle.std.specs.Prelude.{ℕ, ◌+◌, ◌*◌, ◌≤◌, ◌≡◌, Option, Some, None}
 use Rattle.speed_bin.specs.Alert.{alert}
 use Rattle.speed_bin.specs.Gap.{n_col, n_tail}
-use Rattle.speed_bin.specs.Log.{Log}
+use Rattle.speed_bin.specs.Log.{Log, last_clock}
 use Rattle.speed_bin.specs.declared.header.Header.{Header}
 use Rattle.requests.specs.Owed.{owed_count}
-use Rattle.deadlines.specs.Blocking.{last_clock, AllRise}
+use Rattle.deadlines.specs.Blocking.{AllRise}
 use Rattle.deadlines.specs.Stages.{Stage}
 use Rattle.deadlines.specs.declared.task.Task.{Task}
 use Rattle.deadlines.specs.declared.task.Task.TheVariants.{RfmAll}

@@ -8,11 +8,6 @@ use Rattle.speed_bin.specs.declared.timing.Timing.{Timing}
 unfoldable pub n_pre : Timing → ℕ
 n_pre t = t.ncwl + 8 + t.nwr + t.nrtp
 
--- the clock of the last place, 0 where there is none
-abbrev pub last_clock : Log → ℕ
-last_clock [] = 0
-last_clock (place ∷ log) = place.clock
-
 -- no place is later than this clock
 abbrev pub AllUpTo : ℕ → Log → Type 0
 AllUpTo clock [] = ⊤

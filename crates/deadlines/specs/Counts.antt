@@ -6,7 +6,7 @@ use Rattle.command_words.specs.declared.command.Command.{Command}
 use Rattle.command_words.specs.declared.command.Command.TheVariants.{Act, RefSb}
 use Rattle.speed_bin.specs.Alert.{alert}
 use Rattle.speed_bin.specs.Counts.{commands}
-use Rattle.speed_bin.specs.Kinds.{Closes, Manages, effect, is_precharge, is_rfm_all, is_rfm_same, is_mrw, is_nop}
+use Rattle.command_words.specs.Kinds.{Closes, Manages, effect, is_precharge, is_rfm_all, is_rfm_same, is_mrw, is_nop}
 use Rattle.speed_bin.specs.Log.{Log, Issued, open_at, raa}
 use Rattle.speed_bin.specs.Weights.{sum_below}
 use Rattle.speed_bin.specs.declared.header.Header.{Header}

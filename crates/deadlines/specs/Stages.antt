@@ -1,7 +1,7 @@
 -- How far a task is from its own command.
 use Rattle.std.specs.Prelude.{ℕ, ◌+◌, ◌<◌, ◌≤◌, ◌≡◌, true, None}
 use Rattle.command_words.specs.declared.command.Command.{Command}
-use Rattle.speed_bin.specs.Kinds.{is_precharge, needs_closed}
+use Rattle.command_words.specs.Kinds.{is_precharge, needs_closed}
 use Rattle.speed_bin.specs.Log.{Log, open_at}
 use Rattle.speed_bin.specs.Rules.{MayFollow}
 use Rattle.speed_bin.specs.declared.header.Header.{Header}

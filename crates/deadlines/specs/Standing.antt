@@ -2,11 +2,10 @@
 use Rattle.std.specs.Prelude.{ℕ, ◌+◌, ◌*◌, ◌<◌, ◌≤◌, ◌≡◌, List, [], ◌∷◌, length, Option, Some, None, IsTrue, ⊤}
 use Rattle.speed_bin.specs.Alert.{alert}
 use Rattle.speed_bin.specs.Gap.{n_max}
-use Rattle.speed_bin.specs.Log.{Log, refs}
+use Rattle.speed_bin.specs.Log.{Log, refs, last_clock}
 use Rattle.speed_bin.specs.Rules.{rule_6, rule_7, rule_8, rule_13}
 use Rattle.speed_bin.specs.declared.header.Header.{Header}
 use Rattle.speed_bin.specs.declared.settings.RefreshMode.{RefreshMode}
-use Rattle.deadlines.specs.Blocking.{last_clock}
 use Rattle.deadlines.specs.Backoffs.{Backoff}
 use Rattle.deadlines.specs.Timely.{Timely}
 use Rattle.deadlines.specs.Counts.{AllAddressed, Job}

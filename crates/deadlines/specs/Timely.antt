@@ -3,12 +3,11 @@ use Rattle.std.specs.Prelude.{ℕ, suc, ◌+◌, ◌*◌, ◌/◌, ◌%◌, ◌<
 use Rattle.command_words.specs.declared.command.Command.{Command}
 use Rattle.speed_bin.specs.Alert.{alert}
 use Rattle.speed_bin.specs.Gap.{n_col}
-use Rattle.speed_bin.specs.Kinds.{needs_closed}
-use Rattle.speed_bin.specs.Log.{Log, open_at, refs, scrubs}
+use Rattle.command_words.specs.Kinds.{needs_closed}
+use Rattle.speed_bin.specs.Log.{Log, open_at, refs, scrubs, last_clock}
 use Rattle.speed_bin.specs.Rules.{MayFollow}
 use Rattle.speed_bin.specs.declared.header.Header.{Header}
 use Rattle.requests.specs.Owed.{owed_count}
-use Rattle.deadlines.specs.Blocking.{last_clock}
 use Rattle.deadlines.specs.Stages.{Stage}
 use Rattle.deadlines.specs.Rounds.{Rounds, next_due, ecs_due, round, begun, per_task, limit, when}
 use Rattle.deadlines.specs.declared.task.Task.{Task}

@@ -8,7 +8,7 @@ use Rattle.command_words.specs.declared.place.Bank.{Bank}
 use Rattle.command_words.specs.declared.command.Command.{Command}
 use Rattle.command_words.specs.declared.command.Command.TheVariants.{Act, PrePb, PreAb}
 use Rattle.speed_bin.specs.Alert.{alert}
-use Rattle.speed_bin.specs.Kinds.{is_mrw}
+use Rattle.command_words.specs.Kinds.{is_mrw}
 use Rattle.speed_bin.specs.Log.{Log, Issued, open_at, refs, scrubs}
 use Rattle.speed_bin.specs.Rules.{rule_10}
 use Rattle.speed_bin.specs.declared.header.Header.{Header}

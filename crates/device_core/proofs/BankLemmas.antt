@@ -7,7 +7,7 @@ use Rattle.command_words.specs.Command.{bank_number, is_at}
 use Rattle.command_words.specs.declared.command.Command.{Command}
 use Rattle.command_words.specs.declared.command.Command.TheVariants.{Act, Rd, Wr, PrePb, PreSb, PreAb, RefAb, RefSb, RfmAb, RfmSb, Mrw, Ecs, Nop}
 use Rattle.speed_bin.specs.declared.header.Header.{Header}
-use Rattle.speed_bin.specs.Kinds.{Effect, Opens, Closes, Manages, Refreshes, Leaves, effect, is_precharge, is_rfm_all, is_rfm_same, is_mrw}
+use Rattle.command_words.specs.Kinds.{Effect, Opens, Closes, Manages, Refreshes, Leaves, effect, is_precharge, is_rfm_all, is_rfm_same, is_mrw}
 use Rattle.speed_bin.specs.Log.{Log, open_at}
 use Rattle.speed_bin.specs.Counters.{Counter, counters, counters_after, count_of, tracked}
 use Rattle.speed_bin.proofs.Rows.{unused, unused_counts}

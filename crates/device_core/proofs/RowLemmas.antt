@@ -12,7 +12,7 @@ use Rattle.speed_bin.specs.Counters.{acts, cnt}
 use Rattle.speed_bin.specs.Counts.{acts_opened, peak}
 use Rattle.speed_bin.specs.Header.{IsAccepted, bound, spare}
 use Rattle.speed_bin.specs.Height.{height_of, greatest_upto}
-use Rattle.speed_bin.specs.Kinds.{Effect, Opens, Closes, Manages, Refreshes, Leaves, is_act}
+use Rattle.command_words.specs.Kinds.{Effect, Opens, Closes, Manages, Refreshes, Leaves, is_act}
 use Rattle.speed_bin.specs.Log.{Log, open_at}
 use Rattle.speed_bin.specs.Marks.{Keeps as KeepsRules}
 use Rattle.speed_bin.proofs.Checks.{spare_in_range}

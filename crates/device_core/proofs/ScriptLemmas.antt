@@ -12,7 +12,7 @@ use Rattle.speed_bin.specs.Below.{all_below, any_below}
 use Rattle.speed_bin.specs.Gap.{n_tail, n_max, n_close, n_col}
 use Rattle.speed_bin.specs.Header.{IsAccepted, spare}
 use Rattle.speed_bin.specs.Version.{plain}
-use Rattle.speed_bin.specs.Kinds.{is_wr}
+use Rattle.command_words.specs.Kinds.{is_wr}
 use Rattle.speed_bin.specs.Timing.{tiny}
 use Rattle.speed_bin.proofs.SpareIsNeeded.{tiny_timing}
 use Rattle.speed_bin.proofs.Tests.{both, none_from_test}

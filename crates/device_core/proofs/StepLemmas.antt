@@ -13,10 +13,10 @@ use Rattle.command_words.specs.Words.{Spells}
 use Rattle.command_words.specs.declared.words.Words.{Words}
 use Rattle.command_words.specs.declared.words.WordFault.{WordFault}
 use Rattle.speed_bin.specs.declared.header.Header.{Header}
-use Rattle.speed_bin.specs.Header.{IsAccepted}
-use Rattle.speed_bin.specs.Kinds.{is_rd, is_wr, is_scrub}
+use Rattle.speed_bin.specs.Header.{IsAccepted, shape_of}
+use Rattle.command_words.specs.Kinds.{is_rd, is_wr, is_scrub}
 use Rattle.speed_bin.specs.Log.{Issued, Log, open_at, scrubs as scrubs_in}
-use Rattle.error_scrub.specs.Cells.{shape_of, IsUnchanged as CellsUnchanged}
+use Rattle.error_scrub.specs.Cells.{cells_shape, IsUnchanged as CellsUnchanged}
 use Rattle.error_scrub.specs.declared.cells.Cells.{Cells}
 use Rattle.error_scrub.specs.Changes.{Change, scrubs, StandsFor as CellsFor}
 use Rattle.error_scrub.specs.Scrubbing.{Step as Visit, Tally, line_after, StandsFor as ScrubFor}
@@ -25,7 +25,7 @@ use Rattle.device_core.specs.Legal.{IsLegal, AllLegal}
 use Rattle.device_core.specs.Rows.{StandsFor as RowsFor, MayIssue}
 use Rattle.device_core.specs.Steps.{Step, Issues, Flips, log_of}
 use Rattle.device_core.specs.Store.{StandsFor as StoreFor}
-use Rattle.device_core.specs.Stored.{shape, also, answer, change_of, changes_of, visits, words_after}
+use Rattle.device_core.specs.Stored.{also, answer, change_of, changes_of, visits, words_after}
 use Rattle.device_core.specs.Standing.{Keeps, StandsFor, StandsForSome, IsGiven, AllGiven, IsBit, MayGive, MayStep, MayFlip, IsUnchanged, with_command}
 use Rattle.device_core.specs.declared.activations.Activations.{Activations}
 use Rattle.device_core.specs.declared.device.Device.{Device}
@@ -51,7 +51,7 @@ shape_by_some a b same =
 
 visits_count : (h : Header) (steps : List Step) → length (visits h steps) ≡ scrubs_in (log_of steps)
 visits_count h [] = refl
-visits_count h (Issues delivered ∷ steps) = go (words_after (changes_of h steps) (line_after (shape h) (scrubs_in (log_of steps)))) (is_scrub delivered.issued.command) (visits_count h steps)
+visits_count h (Issues delivered ∷ steps) = go (words_after (changes_of h steps) (line_after (shape_of h) (scrubs_in (log_of steps)))) (is_scrub delivered.issued.command) (visits_count h steps)
     ∙ sym (sum_by-cons (λ (place : Issued). cond (is_scrub place.command) 1 0) delivered.issued (log_of steps))
   where
     go : (found : Visit) (t : Bool) → length (visits h steps) ≡ scrubs_in (log_of steps) → length (cond t (found ∷ visits h steps) (visits h steps)) ≡ cond t 1 0 + scrubs_in (log_of steps)
@@ -62,25 +62,25 @@ visits_count h (Flips place device bit ∷ steps) = visits_count h steps
 -- ---- One command more
 
 pub store_at_scrub : (store : Store) (h : Header) (clock : ℕ) (command : Command) (bytes : Option (List ℕ)) (steps : List Step) → command ≡ Ecs
-    → StoreFor store (shape h) (scrubs (line_after (shape h) (length (visits h steps))) ∷ changes_of h steps) (words_after (changes_of h steps) (line_after (shape h) (length (visits h steps))) ∷ visits h steps)
-    → StoreFor store (shape h) (changes_of h (with_command clock command bytes steps)) (visits h (with_command clock command bytes steps))
+    → StoreFor store (shape_of h) (scrubs (line_after (shape_of h) (length (visits h steps))) ∷ changes_of h steps) (words_after (changes_of h steps) (line_after (shape_of h) (length (visits h steps))) ∷ visits h steps)
+    → StoreFor store (shape_of h) (changes_of h (with_command clock command bytes steps)) (visits h (with_command clock command bytes steps))
 store_at_scrub store h clock command bytes steps is s =
-    subst (λ (c : Command). StoreFor store (shape h) (changes_of h (with_command clock c bytes steps)) (visits h (with_command clock c bytes steps))) (sym is)
-    (subst (λ (n : ℕ). StoreFor store (shape h) (scrubs (line_after (shape h) n) ∷ changes_of h steps) (words_after (changes_of h steps) (line_after (shape h) n) ∷ visits h steps)) (visits_count h steps) s)
+    subst (λ (c : Command). StoreFor store (shape_of h) (changes_of h (with_command clock c bytes steps)) (visits h (with_command clock c bytes steps))) (sym is)
+    (subst (λ (n : ℕ). StoreFor store (shape_of h) (scrubs (line_after (shape_of h) n) ∷ changes_of h steps) (words_after (changes_of h steps) (line_after (shape_of h) n) ∷ visits h steps)) (visits_count h steps) s)
 
 pub store_at_write : (store : Store) (h : Header) (clock : ℕ) (command : Command) (bank : Bank) (column : ℕ) (bytes : Option (List ℕ)) (steps : List Step) → command ≡ Wr bank column
-    → StoreFor store (shape h) (also (change_of h (Wr bank column) bytes (log_of steps)) (changes_of h steps)) (visits h steps)
-    → StoreFor store (shape h) (changes_of h (with_command clock command bytes steps)) (visits h (with_command clock command bytes steps))
+    → StoreFor store (shape_of h) (also (change_of h (Wr bank column) bytes (log_of steps)) (changes_of h steps)) (visits h steps)
+    → StoreFor store (shape_of h) (changes_of h (with_command clock command bytes steps)) (visits h (with_command clock command bytes steps))
 store_at_write store h clock command bank column bytes steps is s =
-    subst (λ (c : Command). StoreFor store (shape h) (changes_of h (with_command clock c bytes steps)) (visits h (with_command clock c bytes steps))) (sym is) s
+    subst (λ (c : Command). StoreFor store (shape_of h) (changes_of h (with_command clock c bytes steps)) (visits h (with_command clock c bytes steps))) (sym is) s
 
 -- a command that neither writes nor scrubs leaves the stored lines
 pub store_else : (store : Store) (h : Header) (clock : ℕ) (command : Command) (bytes : Option (List ℕ)) (steps : List Step) → is_wr command ≡ false → is_scrub command ≡ false
-    → StoreFor store (shape h) (changes_of h steps) (visits h steps)
-    → StoreFor store (shape h) (changes_of h (with_command clock command bytes steps)) (visits h (with_command clock command bytes steps))
+    → StoreFor store (shape_of h) (changes_of h steps) (visits h steps)
+    → StoreFor store (shape_of h) (changes_of h (with_command clock command bytes steps)) (visits h (with_command clock command bytes steps))
 store_else store h clock command bytes steps = go command
   where
-    go : (c : Command) → is_wr c ≡ false → is_scrub c ≡ false → StoreFor store (shape h) (changes_of h steps) (visits h steps) → StoreFor store (shape h) (changes_of h (with_command clock c bytes steps)) (visits h (with_command clock c bytes steps))
+    go : (c : Command) → is_wr c ≡ false → is_scrub c ≡ false → StoreFor store (shape_of h) (changes_of h steps) (visits h steps) → StoreFor store (shape_of h) (changes_of h (with_command clock c bytes steps)) (visits h (with_command clock c bytes steps))
     go (Wr bank column) w e s = absurd (cc)
     go Ecs w e s = absurd (cc)
     go _ w e s = s
@@ -114,11 +114,11 @@ some_list device clock command bytes may = ∥∥₁_map may (λ p. (p.0, p.1, p
 
 -- ---- What the conditions of the parts need
 
-pub scrub_shape : (device : Device) → StandsForSome device → device.store.scrub.shape ≡ shape_of device.store.cells
+pub scrub_shape : (device : Device) → StandsForSome device → device.store.scrub.shape ≡ cells_shape device.store.cells
 unfolding StandsFor StoreFor
 scrub_shape device may = shape_by_some _ _ (∥∥₁_map may (λ p. go p.0 p.1 p.2))
   where
-    go : (h : Header) (steps : List Step) → Keeps device h steps → device.store.scrub.shape ≡ shape_of device.store.cells
+    go : (h : Header) (steps : List Step) → Keeps device h steps → device.store.scrub.shape ≡ cells_shape device.store.cells
     go h steps s = s.store.scrub_shape ∙ sym s.store.shape
 
 pub few_steps : (device : Device) (clock : ℕ) (command : Command) (bytes : Option (List ℕ)) → MayGive device clock command bytes → device.store.scrub.steps < 2 ^ 48
@@ -134,14 +134,14 @@ few_steps device clock command bytes may = ∥∥₁_elim may le_prop (λ p. go 
         omega arith
 
 -- the open row of a bank is inside the device's shape
-pub row_inside : (device : Device) (bank : Bank) (column row : ℕ) → bank_number bank < 32 → StandsForSome device → ((h : Header) (steps : List Step) → StandsFor device h steps → Some row ≡ open_at (bank_number bank) (log_of steps)) → IsInside (record { bank = bank; row = row; column = column }) (shape_of device.store.cells)
+pub row_inside : (device : Device) (bank : Bank) (column row : ℕ) → bank_number bank < 32 → StandsForSome device → ((h : Header) (steps : List Step) → StandsFor device h steps → Some row ≡ open_at (bank_number bank) (log_of steps)) → IsInside (record { bank = bank; row = row; column = column }) (cells_shape device.store.cells)
 unfolding StandsFor StoreFor RowsFor
 row_inside device bank column row low may is = record {
   row = ∥∥₁_elim may le_prop (λ p. (go p.0 p.1 p.2).row);
   group = ∥∥₁_elim may le_prop (λ p. (go p.0 p.1 p.2).group);
 }
   where
-    go : (h : Header) (steps : List Step) → Keeps device h steps → IsInside (record { bank = bank; row = row; column = column }) (shape_of device.store.cells)
+    go : (h : Header) (steps : List Step) → Keeps device h steps → IsInside (record { bank = bank; row = row; column = column }) (cells_shape device.store.cells)
     go h steps s = subst (IsInside (record { bank = bank; row = row; column = column })) (sym s.store.shape) (record {
       row = open_inside h (bank_number bank) row (log_of steps) s.activations.accepted s.activations.legal low (sym (is h steps s));
       group = open_group h bank row (log_of steps) s.activations.legal (sym (is h steps s));
@@ -149,11 +149,11 @@ row_inside device bank column row low may is = record {
 
 -- ---- A turned bit
 
-flips_inside : (device : Device) (h : Header) (steps : List Step) (place : Place) (at bit : ℕ) → StandsFor device h steps → IsBit h place at bit → IsInside place (shape_of device.store.cells)
+flips_inside : (device : Device) (h : Header) (steps : List Step) (place : Place) (at bit : ℕ) → StandsFor device h steps → IsBit h place at bit → IsInside place (cells_shape device.store.cells)
 unfolding StandsFor StoreFor
 flips_inside device h steps place at bit s can = subst (IsInside place) (sym s.store.shape) can.inside
 
-pub flip_inside : (device : Device) (place : Place) (at bit : ℕ) → MayFlip device place at bit → IsInside place (shape_of device.store.cells)
+pub flip_inside : (device : Device) (place : Place) (at bit : ℕ) → MayFlip device place at bit → IsInside place (cells_shape device.store.cells)
 flip_inside device place at bit may = record {
   row = ∥∥₁_elim may le_prop (λ p. (flips_inside device p.0 p.1 place at bit p.2 p.3).row);
   group = ∥∥₁_elim may le_prop (λ p. (flips_inside device p.0 p.1 place at bit p.2 p.3).group);

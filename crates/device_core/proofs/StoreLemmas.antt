@@ -2,7 +2,7 @@
 use Rattle.std.proofs.Common.{◌≡◌, ◌∙◌, ℕ, ◌+◌, refl, ap, subst, arith, List, ◌∷◌, length}
 use Rattle.command_words.specs.Geometry.{Shape}
 use Rattle.error_scrub.specs.declared.cells.Cells.{Cells}
-use Rattle.error_scrub.specs.Cells.{shape_of, line_read, scrubbed, ChangesLine}
+use Rattle.error_scrub.specs.Cells.{cells_shape, line_read, scrubbed, ChangesLine}
 use Rattle.error_scrub.specs.Changes.{Change, scrubs, StandsFor as CellsFor}
 use Rattle.error_scrub.specs.Scrubbing.{Step as Visit, Tally, words_at, line_after, StandsFor as ScrubFor}
 use Rattle.device_core.specs.Stored.{reading, words_after}
@@ -26,7 +26,7 @@ Scrubs = (old new : Cells) (line : ℕ) (log : List Change) → ChangesLine old 
 pub visited : (law : Scrubs) (old : Store) (cells : Cells) (scrub : Tally) (g : Shape) (changes : List Change) (visits : List Visit)
     → StandsFor old g changes visits
     → ChangesLine old.cells cells (line_after old.scrub.shape old.scrub.steps) (scrubbed old.cells (line_after old.scrub.shape old.scrub.steps))
-    → shape_of cells ≡ shape_of old.cells
+    → cells_shape cells ≡ cells_shape old.cells
     → ((log : List Visit) → ScrubFor old.scrub log → ScrubFor scrub (words_at old.cells (line_after old.scrub.shape old.scrub.steps) ∷ log))
     → scrub.steps ≡ old.scrub.steps + 1
     → scrub.shape ≡ old.scrub.shape

@@ -6,7 +6,7 @@ use Rattle.command_words.specs.declared.command.Command.TheVariants.{Mrw}
 use Rattle.command_words.specs.declared.command.Mrw.{Mrw as Write}
 use Rattle.speed_bin.specs.declared.header.Header.{Header}
 use Rattle.speed_bin.specs.declared.settings.Settings.{Settings}
-use Rattle.speed_bin.specs.Kinds.{is_mrw}
+use Rattle.command_words.specs.Kinds.{is_mrw}
 use Rattle.speed_bin.specs.Log.{Log}
 use Rattle.speed_bin.specs.Registers.{register_writes}
 use Rattle.speed_bin.specs.Rules.{rule_14, is_write}

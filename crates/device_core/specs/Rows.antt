@@ -3,7 +3,7 @@ use Rattle.std.specs.Prelude.{ℕ, ◌≡◌, ◌<◌, nat_le, false, List, leng
 use Rattle.command_words.specs.declared.command.Command.{Command}
 use Rattle.speed_bin.specs.declared.header.Header.{Header}
 use Rattle.speed_bin.specs.Header.{IsAccepted}
-use Rattle.speed_bin.specs.Kinds.{Effect, Opens, Closes, Manages, Refreshes, Leaves}
+use Rattle.command_words.specs.Kinds.{Effect, Opens, Closes, Manages, Refreshes, Leaves}
 use Rattle.speed_bin.specs.Log.{Log}
 use Rattle.speed_bin.specs.Counters.{counters, count_of, tracked}
 use Rattle.speed_bin.specs.Counts.{peak}

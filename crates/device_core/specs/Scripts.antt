@@ -6,7 +6,7 @@ use Rattle.command_words.specs.declared.geometry.Place.{Place}
 use Rattle.command_words.specs.declared.command.Command.{Command}
 use Rattle.command_words.specs.declared.words.WordFault.{WordFault}
 use Rattle.speed_bin.specs.declared.header.Header.{Header}
-use Rattle.speed_bin.specs.Kinds.{is_wr}
+use Rattle.command_words.specs.Kinds.{is_wr}
 use Rattle.speed_bin.specs.Marks.{is_in_range}
 use Rattle.speed_bin.specs.Rules.{broken}
 use Rattle.device_core.specs.Steps.{Step, log_of}

@@ -7,12 +7,13 @@ use Rattle.command_words.specs.declared.command.Command.{Command}
 use Rattle.command_words.specs.declared.geometry.Place.{Place}
 use Rattle.command_words.specs.declared.words.Words.{Words}
 use Rattle.speed_bin.specs.declared.header.Header.{Header}
-use Rattle.speed_bin.specs.Kinds.{is_wr}
+use Rattle.command_words.specs.Kinds.{is_wr}
 use Rattle.device_core.specs.Legal.{IsLegal}
 use Rattle.device_core.specs.Rows.{StandsFor as RowsFor}
 use Rattle.device_core.specs.Steps.{Step, Issues, Flips, log_of}
 use Rattle.device_core.specs.Store.{StandsFor as StoreFor, IsUnchanged as StoreUnchanged}
-use Rattle.device_core.specs.Stored.{shape, changes_of, visits}
+use Rattle.device_core.specs.Stored.{changes_of, visits}
+use Rattle.speed_bin.specs.Header.{shape_of}
 use Rattle.device_core.specs.Told.{told}
 use Rattle.device_core.specs.declared.device.Device.{Device}
 
@@ -38,7 +39,7 @@ pub record MayFollow (h : Header) (clock : ℕ) (command : Command) (words : Wor
 
 -- a stored bit that can be turned: the place is one of the header's, the device one of four, the bit one of a codeword
 pub record IsBit (h : Header) (place : Place) (device bit : ℕ) : Type 0 where
-  pub inside : IsInside place (shape h)
+  pub inside : IsInside place (shape_of h)
   pub of_four : device < 4
   pub in_word : bit < 136
 
@@ -54,7 +55,7 @@ pub record Keeps (device : Device) (h : Header) (steps : List Step) : Type 0 whe
   pub given : AllGiven h steps
   pub registers : device.registers ≡ told h (length (log_of steps))
   pub activations : RowsFor device.activations h (log_of steps)
-  pub store : StoreFor device.store (shape h) (changes_of h steps) (visits h steps)
+  pub store : StoreFor device.store (shape_of h) (changes_of h steps) (visits h steps)
 
 -- the device stands for the list; how is its own affair
 unfoldable pub StandsFor : Device → Header → List Step → Type 0

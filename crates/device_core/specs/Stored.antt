@@ -8,7 +8,7 @@ use Rattle.command_words.specs.declared.geometry.Place.{Place}
 use Rattle.command_words.specs.declared.command.Command.{Command}
 use Rattle.command_words.specs.declared.command.Command.TheVariants.{Rd, Wr, Ecs}
 use Rattle.speed_bin.specs.declared.header.Header.{Header}
-use Rattle.speed_bin.specs.Kinds.{is_scrub}
+use Rattle.command_words.specs.Kinds.{is_scrub}
 use Rattle.speed_bin.specs.Log.{Log, open_at, scrubs as scrubs_in}
 use Rattle.error_scrub.specs.Changes.{Change, wrote, turns, scrubs, word_after}
 use Rattle.error_scrub.specs.Reading.{data_read, state_of, worse}
@@ -16,10 +16,7 @@ use Rattle.error_scrub.specs.Scrubbing.{Step as Visit, line_after, counts_of}
 use Rattle.error_scrub.specs.declared.cells.LineRead.{LineRead}
 use Rattle.error_scrub.specs.declared.scrub.ScrubCounts.{ScrubCounts}
 use Rattle.device_core.specs.Steps.{Step, Issues, Flips, log_of}
-
--- the header's rows, and the groups of its version
-abbrev pub shape : Header → Shape
-shape h = record { rows = h.settings.rows; groups = h.version.groups }
+use Rattle.speed_bin.specs.Header.{shape_of}
 
 -- the place of a bank and a column in the open row of the bank
 abbrev pub place_in : Bank → ℕ → Option ℕ → Option Place
@@ -33,14 +30,14 @@ line_in g bank column None = 0
 
 -- the line that a column command after a log is of
 abbrev pub line_at : Header → Bank → ℕ → Log → ℕ
-line_at h bank column log = line_in (shape h) bank column (open_at (bank_number bank) log)
+line_at h bank column log = line_in (shape_of h) bank column (open_at (bank_number bank) log)
 
 -- what a command after a log does to the stored words: a WR writes the line of its bank, its column and the open row,
 -- and an ECS scrubs one line after another
 abbrev pub change_of : Header → Command → Option (List ℕ) → Log → Option Change
 change_of h (Wr bank column) (Some bytes) log = Some (wrote (line_at h bank column log) bytes)
 change_of h (Wr bank column) None log = None
-change_of h Ecs bytes log = Some (scrubs (line_after (shape h) (scrubs_in log)))
+change_of h Ecs bytes log = Some (scrubs (line_after (shape_of h) (scrubs_in log)))
 change_of h _ bytes log = None
 
 -- what there is, before a list
@@ -52,7 +49,7 @@ also (Some first) rest = first ∷ rest
 abbrev pub changes_of : Header → List Step → List Change
 changes_of h [] = []
 changes_of h (Issues delivered ∷ steps) = also (change_of h delivered.issued.command delivered.bytes (log_of steps)) (changes_of h steps)
-changes_of h (Flips place device bit ∷ steps) = turns (line_of place (shape h)) device bit ∷ changes_of h steps
+changes_of h (Flips place device bit ∷ steps) = turns (line_of place (shape_of h)) device bit ∷ changes_of h steps
 
 -- the four words of a line after these changes
 abbrev pub words_after : List Change → ℕ → Visit
@@ -79,10 +76,10 @@ answer h _ steps = None
 abbrev pub visits : Header → List Step → List Visit
 visits h [] = []
 visits h (Issues delivered ∷ steps) = if is_scrub delivered.issued.command
-    then words_after (changes_of h steps) (line_after (shape h) (scrubs_in (log_of steps))) ∷ visits h steps
+    then words_after (changes_of h steps) (line_after (shape_of h) (scrubs_in (log_of steps))) ∷ visits h steps
     else visits h steps
 visits h (Flips place device bit ∷ steps) = visits h steps
 
 -- the counts of the scrub
 abbrev pub scrub_counts : Header → List Step → ScrubCounts
-scrub_counts h steps = counts_of (shape h) (visits h steps)
+scrub_counts h steps = counts_of (shape_of h) (visits h steps)

@@ -6,7 +6,7 @@ ghost use Rattle.speed_bin.specs.Alert.{alert, closes as closes_at, closes_some,
 ghost use Rattle.speed_bin.specs.Counters.{cnt};
 ghost use Rattle.speed_bin.specs.Counts.{peak as peak_of};
 ghost use Rattle.speed_bin.specs.Header.{IsAccepted, bound};
-ghost use Rattle.speed_bin.specs.Kinds.{effect, is_mrw, is_precharge, is_rfm_all, is_rfm_same};
+ghost use Rattle.command_words.specs.Kinds.{effect, is_mrw, is_precharge, is_rfm_all, is_rfm_same};
 ghost use Rattle.speed_bin.specs.Log.{Log, open_at};
 ghost use Rattle.speed_bin.specs.declared.header.Header.{Header as AnyHeader};
 ghost use Rattle.bank_state.specs.Standing.{StandsFor as BanksFor};

@@ -4,7 +4,7 @@ ghost use Rattle.speed_bin.specs.Counters.{cnt};
 ghost use Rattle.command_words.specs.Command.{bank_number};
 ghost use Rattle.command_words.specs.declared.command.Command.{Command as AnyCommand};
 ghost use Rattle.speed_bin.specs.Header.{IsAccepted, IsSettings};
-ghost use Rattle.speed_bin.specs.Kinds.{effect, Closes, Manages};
+ghost use Rattle.command_words.specs.Kinds.{effect, Closes, Manages};
 ghost use Rattle.speed_bin.specs.Log.{Log, open_at};
 ghost use Rattle.speed_bin.specs.declared.header.Header.{Header as AnyHeader};
 ghost use Rattle.row_counts.specs.Held.{HasRow, MayClose, MayMitigate};

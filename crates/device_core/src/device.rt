@@ -6,15 +6,15 @@ ghost use Rattle.command_words.specs.Words.{Spells};
 ghost use Rattle.command_words.specs.declared.command.Command.{Command as AnyCommand};
 ghost use Rattle.speed_bin.specs.Alert.{alert};
 ghost use Rattle.speed_bin.specs.Counts.{peak as peak_of};
-ghost use Rattle.speed_bin.specs.Header.{IsAccepted, bound};
-ghost use Rattle.speed_bin.specs.Kinds.{is_wr};
+ghost use Rattle.speed_bin.specs.Header.{IsAccepted, bound, shape_of};
+ghost use Rattle.command_words.specs.Kinds.{is_wr};
 ghost use Rattle.speed_bin.specs.Log.{Log, open_at};
 ghost use Rattle.speed_bin.specs.declared.header.Header.{Header as AnyHeader};
-ghost use Rattle.error_scrub.specs.Cells.{shape_of};
+ghost use Rattle.error_scrub.specs.Cells.{cells_shape};
 ghost use Rattle.device_core.specs.Legal.{IsLegal, AllLegal};
 ghost use Rattle.device_core.specs.Steps.{Step, Flips, log_of};
 ghost use Rattle.device_core.specs.Store.{StandsFor as StoreFor, IsUnchanged as StoreUnchanged};
-ghost use Rattle.device_core.specs.Stored.{shape, also, answer, change_of, changes_of, visits, line_at, place_in, reading, scrub_counts as scrub_counts_of};
+ghost use Rattle.device_core.specs.Stored.{also, answer, change_of, changes_of, visits, line_at, place_in, reading, scrub_counts as scrub_counts_of};
 ghost use Rattle.device_core.specs.Told.{told};
 ghost use Rattle.device_core.specs.declared.device.Device.{Device as AnyDevice};
 ghost use Rattle.command_words.specs.declared.command.Command.TheVariants.{Wr as AnyWr};
@@ -143,7 +143,7 @@ impl Device {
         ensures activations { self.new.activations ≡ self.old.activations }
         ensures store { OnOk result ((h : AnyHeader) (steps : List Step) → StandsFor self.old h steps
             → IsGiven h clock command.now (lent bytes.entry) steps
-            → StoreFor self.new.store (shape h) (changes_of h (with_command clock command.now (lent bytes.entry) steps))
+            → StoreFor self.new.store (shape_of h) (changes_of h (with_command clock command.now (lent bytes.entry) steps))
             (visits h (with_command clock command.now (lent bytes.entry) steps))) }
         ensures line { IfOk result (λ line. (h : AnyHeader) (steps : List Step) → StandsFor self.old h steps
             → IsGiven h clock command.now (lent bytes.entry) steps → line ≡ answer h command.now steps) }
@@ -179,7 +179,7 @@ impl Device {
         requires stands { StandsForSome self.now }
         ensures place { (h : AnyHeader) (steps : List Step) → StandsFor self.now h steps
             → result ≡ place_in bank.now column (open_at (bank_number bank.now) (log_of steps)) }
-        ensures inside { IfSome result (λ place. IsInside place (shape_of self.now.store.cells)) }
+        ensures inside { IfSome result (λ place. IsInside place (cells_shape self.now.store.cells)) }
     {
         match self.activations.open_row(*bank) {
             Some(row) => Some(Place {
@@ -218,7 +218,7 @@ impl Device {
         ensures rest { self.new ≡ record self.old { store = self.new.store } }
         ensures ok { OnOk result ((h : AnyHeader) (steps : List Step) → StandsFor self.old h steps
             → IsTrue (is_some (open_at (bank_number bank.now) (log_of steps))) → IsTrue (is_some (lent bytes.entry))
-            → StoreFor self.new.store (shape h)
+            → StoreFor self.new.store (shape_of h)
             (also (change_of h (AnyWr bank.now column) (lent bytes.entry) (log_of steps)) (changes_of h steps)) (visits h steps)) }
         ensures err { OnErr result (StoreUnchanged self.old.store self.new.store) }
     {

@@ -2,7 +2,7 @@
 ghost use Rattle.std.specs.Prelude.{ℕ, ◌≡◌, ◌<◌, ◌^◌, ◌+◌, List, [], ◌∷◌, length, OnOk, OnErr, if◌then◌else◌};
 ghost use Rattle.command_words.specs.Geometry.{Shape};
 ghost use Rattle.command_words.specs.Place.{line_of, IsInside};
-ghost use Rattle.error_scrub.specs.Cells.{shape_of};
+ghost use Rattle.error_scrub.specs.Cells.{cells_shape};
 ghost use Rattle.error_scrub.specs.Changes.{Change, wrote, turns, scrubs};
 ghost use Rattle.error_scrub.specs.Scrubbing.{Step as Visit, line_after, counts_of};
 ghost use Rattle.device_core.specs.Stored.{reading, words_after};
@@ -36,7 +36,7 @@ impl Store {
 
     // The line at the place becomes these bytes.
     pub(crate) fn write(&mut self, place: Place, bytes: &[u8; 64]) -> Result<(), OutOfMemory>
-        requires { IsInside place (shape_of self.old.cells) }
+        requires { IsInside place (cells_shape self.old.cells) }
         ensures ok { OnOk result ((g : Shape) (changes : List Change) (visits : List Visit) → StandsFor self.old g changes visits
             → StandsFor self.new g (wrote (line_of place g) bytes.now ∷ changes) visits) }
         ensures err { OnErr result (IsUnchanged self.old self.new) }
@@ -47,7 +47,7 @@ impl Store {
 
     // What a reading of the place finds.
     pub(crate) fn read(&self, place: Place) -> LineRead
-        requires { IsInside place (shape_of self.now.cells) }
+        requires { IsInside place (cells_shape self.now.cells) }
         ensures { (g : Shape) (changes : List Change) (visits : List Visit) → StandsFor self.now g changes visits
             → result ≡ reading changes (line_of place g) }
     {
@@ -56,7 +56,7 @@ impl Store {
 
     // One bit of one device's codeword is turned.
     pub(crate) fn flip(&mut self, place: Place, device: u8, bit: u8) -> Result<(), OutOfMemory>
-        requires place { IsInside place (shape_of self.old.cells) }
+        requires place { IsInside place (cells_shape self.old.cells) }
         requires device { device < 4 }
         requires bit { bit < 136 }
         ensures ok { OnOk result ((g : Shape) (changes : List Change) (visits : List Visit) → StandsFor self.old g changes visits
@@ -69,7 +69,7 @@ impl Store {
 
     // The scrub visits its next line.
     pub(crate) fn scrub(&mut self)
-        requires shape { self.old.scrub.shape ≡ shape_of self.old.cells }
+        requires shape { self.old.scrub.shape ≡ cells_shape self.old.cells }
         requires steps { self.old.scrub.steps < 2 ^ 48 }
         ensures { (g : Shape) (changes : List Change) (visits : List Visit) → StandsFor self.old g changes visits
             → StandsFor self.new g (scrubs (line_after g (length visits)) ∷ changes)

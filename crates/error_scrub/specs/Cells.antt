@@ -26,18 +26,18 @@ unfoldable pub stored : Cells → ℕ → ℕ → List ℕ
 stored cells line device = word_in (get nat_cmp cells.kept line) device
 
 -- the geometry that the cells were made with
-unfoldable pub shape_of : Cells → Shape
-shape_of cells = cells.geometry
+unfoldable pub cells_shape : Cells → Shape
+cells_shape cells = cells.geometry
 
 -- the words of a line become these, and those of each other line stay
 pub record ChangesLine (old new : Cells) (line : ℕ) (words : ℕ → List ℕ) : Type 0 where
-  pub shape : shape_of new ≡ shape_of old
+  pub shape : cells_shape new ≡ cells_shape old
   pub changed : (device : ℕ) → device < 4 → stored new line device ≡ words device
   pub others : (other device : ℕ) → other ≢ line → stored new other device ≡ stored old other device
 
 -- each stored word stays
 pub record IsUnchanged (old new : Cells) : Type 0 where
-  pub shape : shape_of new ≡ shape_of old
+  pub shape : cells_shape new ≡ cells_shape old
   pub same : (line device : ℕ) → stored new line device ≡ stored old line device
 
 -- the words of 64 bytes: device d has bytes 16 * d to 16 * d + 15

@@ -24,14 +24,14 @@ pub struct Cells {
     kept: BTreeMap<u32, [Codeword; 4]>,
 }
 
-#[tactic(auto, unfolding(crate::specs::Cells::stored, crate::specs::Cells::shape_of))]
+#[tactic(auto, unfolding(crate::specs::Cells::stored, crate::specs::Cells::cells_shape))]
 impl Cells {
-    ghost use Rattle.error_scrub.specs.Cells.{zero_word, stored, shape_of, line_read, written, flipped, scrubbed, ChangesLine, IsUnchanged};
+    ghost use Rattle.error_scrub.specs.Cells.{zero_word, stored, cells_shape, line_read, written, flipped, scrubbed, ChangesLine, IsUnchanged};
     ghost use Rattle.error_scrub.specs.Scrubbing.{words_at, fixed_in, lost_in};
 
     /// Every line zero.
     pub fn new(alloc: Global, g: Geometry) -> Self
-        ensures shape { shape_of result ≡ g }
+        ensures shape { cells_shape result ≡ g }
         ensures zero { (line device : ℕ) → stored result line device ≡ zero_word }
     {
         Cells {
@@ -42,10 +42,10 @@ impl Cells {
 
     /// The line becomes these bytes, whatever was stored before.
     pub fn write(&mut self, place: Place, bytes: &[u8; 64]) -> Result<(), OutOfMemory>
-        requires { IsInside place (shape_of self.old) }
-        ensures ok { OnOk result (ChangesLine self.old self.new (line_of place (shape_of self.old)) (written bytes.now)) }
+        requires { IsInside place (cells_shape self.old) }
+        ensures ok { OnOk result (ChangesLine self.old self.new (line_of place (cells_shape self.old)) (written bytes.now)) }
         ensures err { OnErr result (IsUnchanged self.old self.new) }
-        ensures shape { shape_of self.new ≡ shape_of self.old }
+        ensures shape { cells_shape self.new ≡ cells_shape self.old }
     {
         let line = unmap(place, self.geometry).get();
         self.keep(line, protected(bytes))
@@ -53,8 +53,8 @@ impl Cells {
 
     /// The bytes of the line after correction. Nothing is written back.
     pub fn read(&self, place: Place) -> LineRead
-        requires { IsInside place (shape_of self.now) }
-        ensures { result ≡ line_read self.now (line_of place (shape_of self.now)) }
+        requires { IsInside place (cells_shape self.now) }
+        ensures { result ≡ line_read self.now (line_of place (cells_shape self.now)) }
     {
         let line = unmap(place, self.geometry).get();
         let words = self.words(line);
@@ -73,13 +73,13 @@ impl Cells {
 
     /// One bit of one device's codeword is turned.
     pub fn flip(&mut self, place: Place, device: u8, bit: u8) -> Result<(), OutOfMemory>
-        requires place { IsInside place (shape_of self.old) }
+        requires place { IsInside place (cells_shape self.old) }
         requires device { device < 4 }
         requires bit { bit < 136 }
         ensures ok { OnOk result
-            (let line = line_of place (shape_of self.old) in ChangesLine self.old self.new line (flipped self.old line device bit)) }
+            (let line = line_of place (cells_shape self.old) in ChangesLine self.old self.new line (flipped self.old line device bit)) }
         ensures err { OnErr result (IsUnchanged self.old self.new) }
-        ensures shape { shape_of self.new ≡ shape_of self.old }
+        ensures shape { cells_shape self.new ≡ cells_shape self.old }
     {
         let line = unmap(place, self.geometry).get();
         let mut words = self.words(line);
@@ -114,7 +114,7 @@ impl Cells {
     fn keep(&mut self, line: u32, words: [Codeword; 4]) -> Result<(), OutOfMemory>
         ensures ok { OnOk result (ChangesLine self.old self.new line (λ device. (slice_index_or words device (record { 0 = [] })).0)) }
         ensures err { OnErr result (IsUnchanged self.old self.new) }
-        ensures shape { shape_of self.new ≡ shape_of self.old }
+        ensures shape { cells_shape self.new ≡ cells_shape self.old }
     {
         match self.kept.insert(line, words) {
             Ok(_) => Ok(()),

@@ -6,7 +6,7 @@ use Rattle.command_words.specs.declared.command.Command.{Command}
 use Rattle.command_words.specs.declared.command.Command.TheVariants.{Act, Rd, Wr, PrePb, PreSb, PreAb, RefAb, RefSb, RfmAb, RfmSb, Mrw, Ecs, Nop}
 use Rattle.speed_bin.specs.declared.header.Header.{Header}
 use Rattle.speed_bin.specs.Below.{any_below}
-use Rattle.speed_bin.specs.Kinds.{is_rfm_all}
+use Rattle.command_words.specs.Kinds.{is_rfm_all}
 use Rattle.speed_bin.specs.Log.{Log}
 use Rattle.speed_bin.proofs.Splits.{last_or_below}
 use Rattle.log_auditor.specs.Activations.{BankKeeps, activity_at}

@@ -7,7 +7,7 @@ use Rattle.speed_bin.specs.Below.{any_below}
 use Rattle.speed_bin.specs.Counters.{Counter, count_of, tracked, counters, counters_after, cnt, acts}
 use Rattle.speed_bin.specs.Header.{IsAccepted, bound}
 use Rattle.speed_bin.specs.Height.{height_of}
-use Rattle.speed_bin.specs.Kinds.{Effect, Opens, Closes, Manages, Refreshes, Leaves, effect}
+use Rattle.command_words.specs.Kinds.{Effect, Opens, Closes, Manages, Refreshes, Leaves, effect}
 use Rattle.speed_bin.specs.Log.{Log, open_at}
 use Rattle.speed_bin.specs.Marks.{Keeps}
 use Rattle.speed_bin.proofs.Bounds.{sound_log}

@@ -16,7 +16,7 @@ use Rattle.ddr_text.specs.declared.lines.ReportLine.{ReportLine}
 use Rattle.ddr_text.specs.declared.opening.Opening.{Opening}
 use Rattle.ddr_text.specs.declared.opening.Opening.TheVariants.{Accepted, Refused as RefusedOpening}
 use Rattle.speed_bin.specs.declared.header.Header.{Header}
-use Rattle.log_auditor.specs.Auditing.{shape_of}
+use Rattle.speed_bin.specs.Header.{shape_of}
 use Rattle.log_auditor.specs.Findings.{Answers, Finds, ReadsAll, breach_of, fine_or, finding_text, found_behind, found_in, refused_or, status_of}
 use Rattle.log_auditor.specs.Progress.{Audited, FindsBehind, IsWritten, LeftBehind, Reads, ReadsAllOf, StopCause, stop_status, with_lines}
 use Rattle.log_auditor.specs.Reading.{IsStep, Lines, Place, lines_in, lines_left, refusal_at, with_line}

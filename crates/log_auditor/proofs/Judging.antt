@@ -15,7 +15,7 @@ use Rattle.speed_bin.specs.Rules.{MayFollow, first_failing, rule_1, rule_2, rule
 use Rattle.speed_bin.specs.declared.header.Header.{Header}
 use Rattle.speed_bin.proofs.Audits.{fine_keeps}
 use Rattle.timing_rules.specs.Spaced.{spacing_rules}
-use Rattle.log_auditor.specs.Auditing.{shape_of}
+use Rattle.speed_bin.specs.Header.{shape_of}
 use Rattle.log_auditor.specs.Groups.{alert_rules, bank_rules, count_rules, first_broken, first_broken_at_end}
 use Rattle.log_auditor.specs.Ledger.{Follows}
 

@@ -7,7 +7,8 @@ use Rattle.ddr_io.specs.declared.line_reader.Line.TheVariants.{Text}
 use Rattle.ddr_text.specs.AcceptedReport.{IsReportLine}
 use Rattle.ddr_text.specs.declared.lines.ReportLine.{ReportLine}
 use Rattle.speed_bin.specs.declared.header.Header.{Header}
-use Rattle.log_auditor.specs.Auditing.{StandsFor, shape_of}
+use Rattle.log_auditor.specs.Auditing.{StandsFor}
+use Rattle.speed_bin.specs.Header.{shape_of}
 use Rattle.log_auditor.specs.Findings.{breach_of, fine_or}
 use Rattle.log_auditor.specs.Progress.{Audited, FindsBehind, LeftBehind, Reads, ReadsAllOf}
 use Rattle.log_auditor.specs.Reading.{IsStep, Place, StepsOn, stage_after}

@@ -5,14 +5,14 @@ use Rattle.ddr_text.specs.AcceptedReport.{IsReportLine}
 use Rattle.ddr_text.specs.ReportGrammar.{has_row}
 use Rattle.ddr_text.specs.declared.lines.ReportLine.{ReportLine}
 use Rattle.ddr_text.specs.declared.lines.ReportLine.TheVariants.{Issued, Value, Flip, Stat, End, Refused}
-use Rattle.speed_bin.specs.Header.{IsAccepted}
+use Rattle.speed_bin.specs.Header.{IsAccepted, shape_of}
 use Rattle.speed_bin.specs.Log.{Log}
 use Rattle.speed_bin.specs.Marks.{RowsInRange, Keeps as KeepsRules, is_in_range}
 use Rattle.speed_bin.specs.Rules.{rule_1, verdict, verdict_after, verdict_at_end}
 use Rattle.speed_bin.specs.declared.header.Header.{Header}
 use Rattle.speed_bin.proofs.Audits.{fine_keeps}
 use Rattle.log_auditor.specs.Activations.{MayCount}
-use Rattle.log_auditor.specs.Auditing.{Keeps, Parts, StandsFor, Taken, is_open, shape_of, state_of, told, told_state}
+use Rattle.log_auditor.specs.Auditing.{Keeps, Parts, StandsFor, Taken, is_open, state_of, told, told_state}
 use Rattle.log_auditor.specs.Groups.{first_broken, first_broken_at_end}
 use Rattle.log_auditor.specs.declared.auditor.Auditor.{Auditor}
 use Rattle.log_auditor.specs.declared.auditor.State.{State}

@@ -8,7 +8,7 @@ use Rattle.speed_bin.specs.declared.header.Header.{Header}
 use Rattle.speed_bin.specs.Below.{any_below}
 use Rattle.speed_bin.specs.Counters.{cnt}
 use Rattle.speed_bin.specs.Header.{IsAccepted}
-use Rattle.speed_bin.specs.Kinds.{Effect, Opens, Closes, Manages, Refreshes, Leaves}
+use Rattle.command_words.specs.Kinds.{Effect, Opens, Closes, Manages, Refreshes, Leaves}
 use Rattle.speed_bin.specs.Log.{Log}
 use Rattle.speed_bin.specs.Marks.{Keeps}
 use Rattle.log_auditor.specs.declared.activations.Activations.{Activations}

@@ -3,7 +3,6 @@ use Rattle.std.specs.Prelude.{ℕ, ◌≡◌, Bool, true, false, [], ◌∷◌, 
 use Rattle.command_words.specs.declared.command.Command.{Command}
 use Rattle.command_words.specs.declared.command.Command.TheVariants.{Mrw as MrwCommand}
 use Rattle.command_words.specs.declared.command.Mrw.{Mrw}
-use Rattle.command_words.specs.Geometry.{Shape}
 use Rattle.ddr_text.specs.declared.lines.ReportLine.{ReportLine}
 use Rattle.ddr_text.specs.declared.lines.ReportLine.TheVariants.{Issued, Value, Flip, Stat, End, Refused}
 use Rattle.speed_bin.specs.Header.{IsAccepted}
@@ -45,10 +44,6 @@ is_open Ended = false
 abbrev pub write_of : Command → Option Mrw
 write_of (MrwCommand write) = Some write
 write_of _ = None
-
--- the shape of the subchannel of a header
-abbrev pub shape_of : Header → Shape
-shape_of h = record { rows = h.settings.rows; groups = h.version.groups }
 
 -- ---- Standing for a log
 

@@ -14,7 +14,7 @@ use Rattle.ddr_text.specs.declared.lines.ReportLine.TheVariants.{Issued, Value, 
 use Rattle.speed_bin.specs.Log.{Log}
 use Rattle.speed_bin.specs.Rules.{verdict, verdict_at_end}
 use Rattle.speed_bin.specs.declared.header.Header.{Header}
-use Rattle.log_auditor.specs.Auditing.{shape_of}
+use Rattle.speed_bin.specs.Header.{shape_of}
 use Rattle.log_auditor.specs.Reading.{Lines, lines_in}
 use Rattle.log_auditor.specs.declared.finding.Finding.{Finding}
 use Rattle.log_auditor.specs.declared.finding.Finding.TheVariants.{Fine, Broken, Refused}

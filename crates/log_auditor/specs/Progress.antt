@@ -10,7 +10,8 @@ use Rattle.ddr_text.specs.Opening.{parts_of}
 use Rattle.ddr_text.specs.declared.lines.ReportLine.{ReportLine}
 use Rattle.speed_bin.specs.declared.header.Header.{Header}
 use Rattle.std.specs.Io.KnownBytes.{Appends}
-use Rattle.log_auditor.specs.Auditing.{StandsFor, shape_of}
+use Rattle.log_auditor.specs.Auditing.{StandsFor}
+use Rattle.speed_bin.specs.Header.{shape_of}
 use Rattle.log_auditor.specs.Findings.{breach_of, end_of, fine_or, found_behind, log_of, finding_text, status_of, ReadsAll}
 use Rattle.log_auditor.specs.Reading.{Lines, Place, is_whole, lines_in, lines_left, with_line}
 use Rattle.log_auditor.specs.declared.audit_loop.Stop.{Stop}

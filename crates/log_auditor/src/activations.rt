@@ -6,7 +6,7 @@ ghost use Rattle.command_words.specs.Command.{bank_number};
 ghost use Rattle.command_words.specs.declared.command.Command.{Command as AnyCommand};
 ghost use Rattle.speed_bin.specs.Alert.{closes_some, is_hot};
 ghost use Rattle.speed_bin.specs.Below.{any_below};
-ghost use Rattle.speed_bin.specs.Kinds.{is_precharge, is_rfm_all};
+ghost use Rattle.command_words.specs.Kinds.{is_precharge, is_rfm_all};
 ghost use Rattle.speed_bin.specs.declared.header.Header.{Header as AnyHeader};
 ghost use Rattle.speed_bin.specs.Header.{IsSettings};
 ghost use Rattle.speed_bin.specs.Log.{Log};

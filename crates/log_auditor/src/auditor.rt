@@ -4,14 +4,14 @@ ghost use Rattle.command_words.specs.declared.command.Command.{Command as AnyCom
 ghost use Rattle.ddr_text.specs.AcceptedReport.{IsReportLine};
 ghost use Rattle.speed_bin.specs.Alert.{alert};
 ghost use Rattle.speed_bin.specs.Counters.{acts};
-ghost use Rattle.speed_bin.specs.Header.{IsAccepted, bound as bound_of};
+ghost use Rattle.speed_bin.specs.Header.{IsAccepted, bound as bound_of, shape_of};
 ghost use Rattle.speed_bin.specs.Log.{Log};
 ghost use Rattle.speed_bin.specs.Rules.{first_failing, all_closed, is_write, rule_1, rule_14, verdict_at_end};
 ghost use Rattle.speed_bin.specs.declared.header.Header.{Header as AnyHeader};
 ghost use Rattle.log_auditor.specs.Activations.{MayCount};
 ghost use Rattle.log_auditor.specs.Groups.{first_broken, first_broken_at_end};
 ghost use Rattle.log_auditor.specs.Ledger.{Follows};
-ghost use Rattle.log_auditor.specs.Auditing.{Parts, Keeps, StandsFor, Taken, shape_of, told, told_state, is_open as is_open_state, write_of as write_in};
+ghost use Rattle.log_auditor.specs.Auditing.{Parts, Keeps, StandsFor, Taken, told, told_state, is_open as is_open_state, write_of as write_in};
 
 use crate::activations::Activations;
 use crate::ledger::Ledger;

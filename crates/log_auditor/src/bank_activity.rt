@@ -5,7 +5,7 @@ ghost use Rattle.command_words.specs.declared.command.Command.{Command as AnyCom
 ghost use Rattle.row_counts.specs.Held.{MayClose};
 ghost use Rattle.speed_bin.specs.declared.header.Header.{Header as AnyHeader};
 ghost use Rattle.speed_bin.specs.Header.{IsSettings};
-ghost use Rattle.speed_bin.specs.Kinds.{Closes, Manages, effect};
+ghost use Rattle.command_words.specs.Kinds.{Closes, Manages, effect};
 ghost use Rattle.speed_bin.specs.Log.{Log, open_at};
 ghost use Rattle.log_auditor.specs.Activations.{BankKeeps, MayCount, closes_row, touch_of};
 

@@ -6,7 +6,7 @@ ghost use Rattle.rfm_counts.specs.Standing.{StandsFor as RaaStandsFor};
 ghost use Rattle.command_words.specs.declared.command.Command.{Command as AnyCommand};
 ghost use Rattle.speed_bin.specs.declared.header.Header.{Header as AnyHeader};
 ghost use Rattle.speed_bin.specs.Alert.{alert as alert_of};
-ghost use Rattle.speed_bin.specs.Kinds.{is_act};
+ghost use Rattle.command_words.specs.Kinds.{is_act};
 ghost use Rattle.speed_bin.specs.Log.{Log};
 ghost use Rattle.speed_bin.specs.Rules.{first_failing, is_wanted, until};
 ghost use Rattle.speed_bin.specs.Timing.{IsTiming};

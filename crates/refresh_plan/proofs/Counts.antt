@@ -3,7 +3,7 @@ use Rattle.std.proofs.Common.{◌≡◌, ◌∙◌, ℕ, ◌+◌, ◌<◌, cond,
 use Rattle.std.proofs.lemmas.List.Sums.{sum_by-cons}
 use Rattle.command_words.specs.declared.command.Command.{Command}
 use Rattle.speed_bin.specs.declared.header.Header.{Header}
-use Rattle.speed_bin.specs.Kinds.{refreshes, is_scrub}
+use Rattle.command_words.specs.Kinds.{refreshes, is_scrub}
 use Rattle.speed_bin.specs.Log.{Issued, Log, refs, scrubs}
 use Rattle.refresh_plan.specs.Held.{Held, after}
 use Rattle.refresh_plan.specs.Standing.{Keeps}

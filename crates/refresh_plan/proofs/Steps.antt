@@ -6,7 +6,7 @@ use Rattle.std.proofs.lemmas.List.{get_or_past}
 use native.Mathlib.Bridge.{le_prop}
 use Rattle.command_words.specs.declared.command.Command.{Command}
 use Rattle.speed_bin.specs.declared.header.Header.{Header}
-use Rattle.speed_bin.specs.Kinds.{refreshes, is_scrub}
+use Rattle.command_words.specs.Kinds.{refreshes, is_scrub}
 use Rattle.speed_bin.specs.Log.{Log, refs, scrubs}
 use Rattle.speed_bin.specs.Rules.{is_on_time, rule_6}
 use Rattle.refresh_plan.specs.Held.{Held, IsBounded, after}

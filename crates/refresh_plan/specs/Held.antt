@@ -1,7 +1,7 @@
 -- What contracts see of a plan.
 use Rattle.std.specs.Prelude.{ℕ, suc, ◌+◌, ◌/◌, ◌^◌, ◌≤◌, Bool, not, ◌&&◌, ◌||◌, ◌==◌, nat_le, if◌then◌else◌, List, slice_index}
 use Rattle.command_words.specs.declared.command.Command.{Command}
-use Rattle.speed_bin.specs.Kinds.{refreshes, is_scrub}
+use Rattle.command_words.specs.Kinds.{refreshes, is_scrub}
 use Rattle.speed_bin.specs.declared.settings.RefreshMode.{RefreshMode}
 
 -- the refresh interval, the mode and `ecs_every` of the header, the refreshes of each address, and the ECS commands

@@ -2,7 +2,7 @@
 ghost use Rattle.std.specs.Prelude.{◌≡◌, ◌≢◌, ℕ, ◌+◌, ◌/◌, ◌<◌, ◌≤◌, ◌^◌, ◌∷◌, [], IsTrue, IsNone, IfSome, ◌↔◌, slice_index, if◌then◌else◌};
 ghost use Rattle.speed_bin.specs.declared.header.Header.{Header as AnyHeader};
 ghost use Rattle.speed_bin.specs.Below.{all_below};
-ghost use Rattle.speed_bin.specs.Kinds.{refreshes, is_scrub};
+ghost use Rattle.command_words.specs.Kinds.{refreshes, is_scrub};
 ghost use Rattle.speed_bin.specs.Log.{Log, Issued, refs, scrubs};
 ghost use Rattle.speed_bin.specs.Rules.{is_on_time, first_failing};
 ghost use Rattle.speed_bin.specs.Timing.{IsClocks};

@@ -11,7 +11,8 @@ use Rattle.device_core.specs.Stored.{reading}
 use Rattle.reports.specs.Readings.{changes, before, reading_of}
 use Rattle.reports.specs.Requests.{Request, requests, reads, is_reading}
 use Rattle.reports.specs.Runs.{Step, Issues, Flips, Run, log_of, is_served, ready, held}
-use Rattle.reports.specs.Report.{answer, answers, last_clock, flip_lines, latest, report, is_value, values}
+use Rattle.reports.specs.Report.{answer, answers, flip_lines, latest, report, is_value, values}
+use Rattle.speed_bin.specs.Log.{last_clock}
 use Rattle.reports.specs.Sound.{IsRun}
 use Rattle.reports.proofs.Ready.{ready-none, ready-more, ready-held, ready-all, ready-of_held}
 

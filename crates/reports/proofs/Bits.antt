@@ -8,7 +8,8 @@ use Rattle.ddr_text.specs.declared.lines.ReportLine.{ReportLine}
 use Rattle.ddr_text.specs.declared.lines.ReportLine.TheVariants.{Issued as IssuedLine, Value as ValueLine, Flip as FlipLine, Stat as StatLine, End as EndLine, Refused as RefusedLine}
 use Rattle.reports.specs.Requests.{Request, requests, reads, flips_from}
 use Rattle.reports.specs.Runs.{Issues, Flips, Run, log_of, flipped, ready, held}
-use Rattle.reports.specs.Report.{answer, last_clock, flip_lines, latest, report}
+use Rattle.reports.specs.Report.{answer, flip_lines, latest, report}
+use Rattle.speed_bin.specs.Log.{last_clock}
 use Rattle.reports.specs.Sound.{IsRun}
 use Rattle.reports.specs.Barriers.{Bit, bits_of, turned_bits}
 

@@ -7,13 +7,12 @@ use Rattle.std.proofs.lemmas.Bool.{lt-ltb}
 use Rattle.command_words.specs.declared.command.Command.{Command}
 use Rattle.command_words.specs.declared.command.Command.TheVariants.{Act, Rd, Wr, PrePb, PreSb, PreAb, RefAb, RefSb, RfmAb, RfmSb, Mrw, Ecs, Nop}
 use Rattle.speed_bin.specs.Counters.{acts}
-use Rattle.speed_bin.specs.Header.{IsAccepted, bound}
+use Rattle.speed_bin.specs.Header.{IsAccepted, bound, shape_of}
 use Rattle.speed_bin.specs.Log.{Log}
 use Rattle.speed_bin.specs.Marks.{is_bank, is_in_range, Keeps}
 use Rattle.speed_bin.specs.Rules.{broken, broken_at_end, verdict, verdict_after, verdict_at_end}
 use Rattle.speed_bin.proofs.Tests.{joined}
 use Rattle.speed_bin.specs.declared.header.Header.{Header}
-use Rattle.requests.specs.Queue.{shape_of}
 use Rattle.ddr_text.specs.Ranges.{IsWithin}
 use Rattle.ddr_text.specs.declared.lines.TraceLine.{TraceLine}
 use Rattle.reports.specs.Runs.{Issues, Flips, Run, log_of}

@@ -7,7 +7,7 @@ use Rattle.command_words.specs.Place.{line_of}
 use Rattle.command_words.specs.declared.place.Bank.{Bank}
 use Rattle.command_words.specs.declared.command.Command.{Command}
 use Rattle.command_words.specs.declared.command.Command.TheVariants.{Act, Rd, Wr, PrePb, PreSb, PreAb, RefAb, RefSb, RfmAb, RfmSb, Mrw, Ecs, Nop}
-use Rattle.speed_bin.specs.Kinds.{is_rd, is_wr}
+use Rattle.command_words.specs.Kinds.{is_rd, is_wr}
 use Rattle.speed_bin.specs.Log.{Log, open_at}
 use Rattle.speed_bin.specs.Rules.{rule_4}
 use Rattle.requests.specs.declared.request.Kind.{Kind}

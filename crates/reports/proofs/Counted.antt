@@ -6,7 +6,7 @@ use Rattle.std.proofs.lemmas.Bool.{ltb-true, ltb-false}
 use Rattle.std.proofs.lemmas.List.{length-append, reverse-append}
 use Rattle.speed_bin.specs.Gap.{n_max, n_close, n_tail}
 use Rattle.speed_bin.specs.Header.{IsAccepted}
-use Rattle.speed_bin.specs.Log.{Issued}
+use Rattle.speed_bin.specs.Log.{Issued, last_clock}
 use Rattle.speed_bin.specs.declared.header.Header.{Header}
 use Rattle.requests.specs.Queue.{waiting, is_served as is_served_number}
 use Rattle.requests.specs.declared.waiting.Waiting.{Waiting}
@@ -18,7 +18,7 @@ use Rattle.reports.specs.Requests.{Request, requests_from, requests, reads, is_r
 use Rattle.reports.specs.Runs.{Step, Issues, Flips, Run, log_of, is_served, unserved, ready, held}
 use Rattle.reports.specs.Barriers.{bits_of, turned_bits, idle_clocks}
 use Rattle.reports.specs.Offered.{rank, offered, controller_steps}
-use Rattle.reports.specs.Report.{answer, last_clock, flip_lines, latest, report, values}
+use Rattle.reports.specs.Report.{answer, flip_lines, latest, report, values}
 use Rattle.reports.specs.Sound.{Sound, IsRun}
 use Rattle.reports.specs.Stats.{stats, stat_lines}
 use Rattle.reports.specs.Whole.{whole}

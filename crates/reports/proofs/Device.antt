@@ -6,15 +6,14 @@ use Rattle.command_words.specs.Command.{IsInRange}
 use Rattle.command_words.specs.Place.{place_of}
 use Rattle.command_words.specs.declared.command.Command.{Command}
 use Rattle.command_words.specs.declared.command.Command.TheVariants.{Act, Rd, Wr, PrePb, PreSb, PreAb, RefAb, RefSb, RfmAb, RfmSb, Mrw, Ecs, Nop}
-use Rattle.speed_bin.specs.Header.{IsAccepted}
-use Rattle.speed_bin.specs.Kinds.{is_rd, is_wr}
+use Rattle.speed_bin.specs.Header.{IsAccepted, shape_of}
+use Rattle.command_words.specs.Kinds.{is_rd, is_wr}
 use Rattle.speed_bin.specs.Log.{Log}
 use Rattle.speed_bin.specs.declared.header.Header.{Header}
 use Rattle.device_core.specs.Legal.{IsLegal}
 use Rattle.device_core.specs.Standing.{IsGiven, HasBytes, IsBit}
 use Rattle.device_core.specs.Steps.{Step as DeviceStep, Flips as Turns, log_of as device_log}
 use Rattle.device_core.specs.Stored.{line_at as device_line_at, answer as device_answer, reading, changes_of}
-use Rattle.requests.specs.Queue.{shape_of}
 use Rattle.requests.specs.declared.request.Kind.TheVariants.{Read as Reads, Write as Writes}
 use Rattle.ddr_text.specs.Ranges.{IsWithin}
 use Rattle.ddr_text.specs.declared.lines.TraceLine.{TraceLine}

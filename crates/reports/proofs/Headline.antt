@@ -1,9 +1,8 @@
 -- A finished run keeps the headline's promises.
 use Rattle.std.proofs.Common.{◌≡◌, ℕ, true, None, List, ◌∷◌, ◌++◌, sym, ◌∙◌, subst}
-use Rattle.speed_bin.specs.Header.{IsAccepted}
+use Rattle.speed_bin.specs.Header.{IsAccepted, shape_of}
 use Rattle.speed_bin.specs.Rules.{verdict_at_end}
 use Rattle.speed_bin.specs.declared.header.Header.{Header}
-use Rattle.requests.specs.Queue.{shape_of}
 use Rattle.ddr_text.specs.declared.lines.TraceLine.{TraceLine}
 use Rattle.reports.specs.Requests.{Request, requests}
 use Rattle.reports.specs.Runs.{Run, log_of, is_served}

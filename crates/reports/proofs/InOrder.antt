@@ -7,7 +7,7 @@ use Rattle.ddr_text.specs.declared.lines.TraceLine.{TraceLine}
 use Rattle.reports.specs.Requests.{Request, requests, on}
 use Rattle.reports.specs.Runs.{Issues, Flips, Run, log_of, also, served}
 use Rattle.reports.specs.Accesses.{Access, access_of, accesses, of_line, InOrder, BeginsInOrder}
-use Rattle.requests.specs.Queue.{shape_of}
+use Rattle.speed_bin.specs.Header.{shape_of}
 use Rattle.reports.specs.Sound.{Sound, IsRun}
 use Rattle.reports.proofs.Order.{waits}
 

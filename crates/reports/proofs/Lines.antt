@@ -13,7 +13,8 @@ use Rattle.reports.specs.Requests.{Request, request_of, requests, flips_from, fl
 use Rattle.reports.specs.Runs.{Issues, Flips, Run, also, served, flipped, log_of, is_served, held, ready}
 use Rattle.reports.specs.Barriers.{Serving, servings, with_serving, idle_clocks, idles_between, is_past, is_apart, AreApart}
 use Rattle.reports.specs.Offered.{asked, offered, rank, ranked}
-use Rattle.reports.specs.Report.{last_clock, flip_lines, latest}
+use Rattle.reports.specs.Report.{flip_lines, latest}
+use Rattle.speed_bin.specs.Log.{last_clock}
 use Rattle.reports.specs.Sound.{IsSoundFlip, Sound, IsRun}
 use Rattle.reports.specs.Window.{AreRequests, KeepsWindow}
 use Rattle.reports.specs.Underway.{Ahead, Unknown, Next, Ended, is_waited, IsUnderway, IsEnded}

@@ -8,7 +8,8 @@ use Rattle.ddr_text.specs.declared.lines.ReportLine.TheVariants.{Issued as Issue
 use Rattle.reports.specs.Requests.{Request, requests, reads}
 use Rattle.reports.specs.Runs.{Issues, Flips, Run, log_of, ready, held}
 use Rattle.speed_bin.specs.declared.header.Header.{Header}
-use Rattle.reports.specs.Report.{answer, last_clock, flip_lines, latest, report}
+use Rattle.reports.specs.Report.{answer, flip_lines, latest, report}
+use Rattle.speed_bin.specs.Log.{last_clock}
 use Rattle.ddr_text.specs.ReportParts.{places_of}
 
 pub places_of-append : (a b : List ReportLine) → places_of (a ++ b) ≡ places_of a ++ places_of b

@@ -12,7 +12,8 @@ use Rattle.command_words.specs.declared.place.Bank.{Bank}
 use Rattle.speed_bin.specs.Log.{open_at}
 use Rattle.speed_bin.specs.declared.header.Header.{Header}
 use Rattle.requests.specs.Order.{named, served as served_waiting, earlier as earlier_of, Serves as ServesNumbered, IsServing}
-use Rattle.requests.specs.Queue.{places, shape_of, waiting_as, numbered, is_of_line, is_number, is_served as is_served_number}
+use Rattle.requests.specs.Queue.{places, waiting_as, numbered, is_of_line, is_number, is_served as is_served_number}
+use Rattle.speed_bin.specs.Header.{shape_of}
 use Rattle.requests.specs.declared.request.Kind.{Kind}
 use Rattle.requests.specs.declared.request.Kind.TheVariants.{Read as Reads, Write as Writes}
 use Rattle.requests.specs.declared.request.Request.{Request as Asked}

@@ -17,7 +17,7 @@ use Rattle.error_scrub.specs.Changes.{Change, wrote, turns, scrubs, word_after}
 use Rattle.error_scrub.specs.Reading.{data_read, worse}
 use Rattle.device_core.specs.Steps.{Step as DeviceStep, log_of as device_log}
 use Rattle.device_core.specs.Stored.{line_in as device_line_in, line_at as device_line_at, change_of, also as also_change, changes_of, reading}
-use Rattle.requests.specs.Queue.{shape_of}
+use Rattle.speed_bin.specs.Header.{shape_of}
 use Rattle.requests.specs.declared.request.Kind.{Kind}
 use Rattle.requests.specs.declared.request.Kind.TheVariants.{Read as Reads, Write as Writes}
 use Rattle.ddr_text.specs.declared.lines.TraceLine.{TraceLine}

@@ -14,7 +14,8 @@ use Rattle.speed_bin.specs.declared.header.Header.{Header}
 use Rattle.device_core.specs.Legal.{IsLegal}
 use Rattle.requests.specs.Choice.{IsChosen}
 use Rattle.requests.specs.Order.{IsServing}
-use Rattle.requests.specs.Queue.{Step as NumberedStep, shape_of, waiting, span, AreKnown, IsFull}
+use Rattle.requests.specs.Queue.{Step as NumberedStep, waiting, span, AreKnown, IsFull}
+use Rattle.speed_bin.specs.Header.{shape_of}
 use Rattle.requests.specs.Window.{window as window_of}
 use Rattle.requests.specs.declared.request.Request.{Request as Asked}
 use Rattle.ddr_text.specs.Ranges.{IsWithin}

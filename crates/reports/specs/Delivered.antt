@@ -5,7 +5,7 @@ use Rattle.command_words.specs.Place.{place_of}
 use Rattle.speed_bin.specs.declared.header.Header.{Header}
 use Rattle.ondie_ecc.specs.Bits.{IsBytes}
 use Rattle.device_core.specs.Steps.{Step as DeviceStep, Issues as Gives, Flips as Turns}
-use Rattle.requests.specs.Queue.{shape_of}
+use Rattle.speed_bin.specs.Header.{shape_of}
 use Rattle.ddr_text.specs.declared.lines.TraceLine.{TraceLine}
 use Rattle.ddr_text.specs.declared.lines.TraceLine.TheVariants.{Read, Write, Flip, Idle}
 use Rattle.reports.specs.Requests.{Request}

@@ -5,7 +5,7 @@ use Rattle.error_scrub.specs.declared.cells.LineRead.{LineRead}
 use Rattle.speed_bin.specs.Log.{Log}
 use Rattle.speed_bin.specs.Rules.{verdict_at_end}
 use Rattle.speed_bin.specs.declared.header.Header.{Header}
-use Rattle.requests.specs.Queue.{shape_of}
+use Rattle.speed_bin.specs.Header.{shape_of}
 use Rattle.requests.specs.declared.request.Kind.TheVariants.{Read as Reads}
 use Rattle.ddr_text.specs.ReportParts.{places_of}
 use Rattle.ddr_text.specs.declared.lines.TraceLine.{TraceLine}

@@ -1,6 +1,6 @@
 -- The lines of a report, as a function of a trace and a run of it.
 use Rattle.std.specs.Prelude.{ℕ, ◌-◌, Bool, true, false, Option, Some, None, List, [], ◌∷◌, ◌++◌, map, filter, slice_get}
-use Rattle.speed_bin.specs.Log.{Issued, Log}
+use Rattle.speed_bin.specs.Log.{Issued, Log, last_clock}
 use Rattle.speed_bin.specs.declared.header.Header.{Header}
 use Rattle.ddr_text.specs.declared.lines.TraceLine.{TraceLine}
 use Rattle.ddr_text.specs.declared.lines.TraceLine.TheVariants.{Read, Write, Flip, Idle}
@@ -20,11 +20,6 @@ answers h trace run rs = map (answer h trace run) (reads rs)
 
 abbrev pub issued_line : Issued → ReportLine
 issued_line issued = IssuedLine issued.clock issued.command
-
--- the clock of the last command, and 0 where there is none
-abbrev pub last_clock : Log → ℕ
-last_clock [] = 0
-last_clock (place ∷ log) = place.clock
 
 -- the F line of a trace's F line, at this clock
 abbrev pub flip_lines : ℕ → Option TraceLine → List ReportLine

@@ -4,13 +4,12 @@ use Rattle.std.specs.List.{list_all}
 use Rattle.speed_bin.specs.Counters.{acts}
 use Rattle.speed_bin.specs.Counts.{commands}
 use Rattle.speed_bin.specs.Gap.{n_max}
-use Rattle.speed_bin.specs.Header.{bound}
-use Rattle.speed_bin.specs.Kinds.{is_act}
+use Rattle.speed_bin.specs.Header.{bound, shape_of}
+use Rattle.command_words.specs.Kinds.{is_act}
 use Rattle.speed_bin.specs.Log.{Log}
 use Rattle.speed_bin.specs.Page.{keeps_page}
 use Rattle.speed_bin.specs.Rules.{broken, broken_at_end}
 use Rattle.speed_bin.specs.declared.header.Header.{Header}
-use Rattle.requests.specs.Queue.{shape_of}
 use Rattle.ddr_text.specs.Ranges.{IsWithin}
 use Rattle.ddr_text.specs.declared.lines.TraceLine.{TraceLine}
 use Rattle.reports.specs.Requests.{requests, flips}

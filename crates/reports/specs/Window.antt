@@ -2,7 +2,8 @@
 use Rattle.std.specs.Prelude.{ℕ, suc, ◌-◌, List, [], ◌∷◌, ◌++◌, map, take, drop, ⊤}
 use Rattle.speed_bin.specs.declared.header.Header.{Header}
 use Rattle.requests.specs.Choice.{IsChosen}
-use Rattle.requests.specs.Queue.{shape_of, waiting_as}
+use Rattle.requests.specs.Queue.{waiting_as}
+use Rattle.speed_bin.specs.Header.{shape_of}
 use Rattle.requests.specs.Window.{window as window_of}
 use Rattle.requests.specs.declared.request.Kind.TheVariants.{Read as Reads, Write as Writes}
 use Rattle.requests.specs.declared.waiting.Waiting.{Waiting}

@@ -3,7 +3,7 @@ use Rattle.std.proofs.Common.{◌≡◌, ◌∙◌, ℕ, inl, inr, true, false, 
 use Rattle.command_words.specs.declared.geometry.Place.{Place}
 use Rattle.command_words.specs.declared.command.Command.{Command}
 use Rattle.command_words.specs.declared.command.Command.TheVariants.{Rd, Wr, PrePb, PreSb, PreAb, RefAb, RefSb, RfmAb, RfmSb, Mrw, Ecs}
-use Rattle.speed_bin.specs.Kinds.{Closes, effect, is_act, is_precharge, needs_closed}
+use Rattle.command_words.specs.Kinds.{Closes, effect, is_act, is_precharge, needs_closed}
 use Rattle.speed_bin.proofs.Effects.{closes_precharge}
 use Rattle.requests.specs.declared.request.Kind.{Kind}
 use Rattle.requests.specs.declared.request.Kind.TheVariants.{Read, Write}

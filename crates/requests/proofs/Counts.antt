@@ -6,11 +6,12 @@ use Rattle.command_words.specs.declared.place.Bank.{Bank}
 use Rattle.command_words.specs.declared.command.Command.{Command}
 use Rattle.command_words.specs.declared.command.Command.TheVariants.{Act}
 use Rattle.speed_bin.specs.Counts.{commands}
-use Rattle.speed_bin.specs.Kinds.{is_act}
+use Rattle.command_words.specs.Kinds.{is_act}
 use Rattle.speed_bin.specs.Log.{Log, Issued}
 use Rattle.speed_bin.proofs.Tests.{both}
 use Rattle.requests.specs.declared.waiting.Waiting.{Waiting}
-use Rattle.requests.specs.Queue.{hits, in_bank, is_row, oldest}
+use Rattle.requests.specs.Queue.{hits, in_bank, oldest}
+use Rattle.speed_bin.specs.Counters.{is_row}
 use Rattle.requests.specs.Owed.{is_column, owed, owed_count, Promised, SparesOwed, count_below}
 use Rattle.requests.proofs.Oldest.{Found, oldest-other, holds}
 use Rattle.requests.proofs.Owed.{IsColumnOf, act_owed, column_owed, owed-other}

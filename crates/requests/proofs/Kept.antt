@@ -6,7 +6,7 @@ use Rattle.command_words.specs.declared.command.Command.{Command}
 use Rattle.command_words.specs.declared.command.Command.TheVariants.{PrePb, RefAb, RefSb, RfmAb, RfmSb, Mrw, Ecs}
 use Rattle.command_words.specs.declared.command.Mrw.{Mrw as Write}
 use Rattle.speed_bin.specs.Counts.{commands}
-use Rattle.speed_bin.specs.Kinds.{Refreshes, Manages, Leaves, effect, is_act, is_mrw, is_precharge, is_scrub, needs_closed}
+use Rattle.command_words.specs.Kinds.{Refreshes, Manages, Leaves, effect, is_act, is_mrw, is_precharge, is_scrub, needs_closed}
 use Rattle.speed_bin.specs.Log.{open_at}
 use Rattle.speed_bin.specs.Rules.{rule_5}
 use Rattle.speed_bin.specs.declared.header.Header.{Header}
@@ -14,7 +14,8 @@ use Rattle.speed_bin.proofs.Effects.{closes_precharge}
 use Rattle.requests.specs.declared.request.Kind.{Kind}
 use Rattle.requests.specs.declared.request.Request.{Request}
 use Rattle.requests.specs.declared.waiting.Waiting.{Waiting}
-use Rattle.requests.specs.Queue.{Step, places, waiting, hits, oldest, is_of_line, shape_of}
+use Rattle.requests.specs.Queue.{Step, places, waiting, hits, oldest, is_of_line}
+use Rattle.speed_bin.specs.Header.{shape_of}
 use Rattle.requests.specs.Order.{Serves}
 use Rattle.requests.specs.Choice.{IsOldestHit, IsMissed}
 use Rattle.requests.specs.Owed.{owed, SparesOwed}

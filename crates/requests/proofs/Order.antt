@@ -10,7 +10,9 @@ use Rattle.speed_bin.specs.declared.header.Header.{Header}
 use Rattle.speed_bin.proofs.Tests.{or_false}
 use Rattle.requests.specs.declared.request.Request.{Request}
 use Rattle.requests.specs.declared.waiting.Waiting.{Waiting}
-use Rattle.requests.specs.Queue.{Step, numbered, waiting, waiting_as, shape_of, is_number, is_served, oldest, hits, is_row, is_of_line}
+use Rattle.requests.specs.Queue.{Step, numbered, waiting, waiting_as, is_number, is_served, oldest, hits, is_of_line}
+use Rattle.speed_bin.specs.Header.{shape_of}
+use Rattle.speed_bin.specs.Counters.{is_row}
 use Rattle.requests.specs.Order.{named, served, IsInOrder, AreServedOnce}
 use Rattle.requests.proofs.Oldest.{holds}
 use Rattle.requests.proofs.Queue.{Rising, rising-at, rising-offered, rising-waiting, numbered-append, waiting-offer, waiting-serve, waiting-other, unserved, filtered-stands}

@@ -5,11 +5,12 @@ use Rattle.command_words.specs.Command.{bank_number, covers}
 use Rattle.command_words.specs.declared.place.Bank.{Bank}
 use Rattle.command_words.specs.declared.command.Command.{Command}
 use Rattle.command_words.specs.declared.command.Command.TheVariants.{Act, Rd, Wr}
-use Rattle.speed_bin.specs.Kinds.{Effect, Opens, Closes, Manages, Refreshes, Leaves, effect, is_act}
+use Rattle.command_words.specs.Kinds.{Effect, Opens, Closes, Manages, Refreshes, Leaves, effect, is_act}
 use Rattle.speed_bin.specs.Log.{Log, open_at, open_after}
 use Rattle.speed_bin.proofs.Effects.{opens_act}
 use Rattle.requests.specs.declared.waiting.Waiting.{Waiting}
-use Rattle.requests.specs.Queue.{hits, in_bank, is_row, oldest}
+use Rattle.requests.specs.Queue.{hits, in_bank, oldest}
+use Rattle.speed_bin.specs.Counters.{is_row}
 use Rattle.requests.specs.Choice.{IsOldestRow}
 use Rattle.requests.specs.Owed.{is_column, owed, owed_after, Promise, Promised, SparesOwed}
 use Rattle.requests.proofs.Oldest.{oldest-more, oldest-remove, oldest-other, holds}

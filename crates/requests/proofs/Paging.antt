@@ -4,7 +4,7 @@ use Rattle.std.specs.List.{remove}
 use Rattle.command_words.specs.Command.{bank_number, is_at, covers}
 use Rattle.command_words.specs.declared.command.Command.{Command}
 use Rattle.command_words.specs.declared.command.Command.TheVariants.{Act, PrePb, PreSb, RefAb, RefSb, RfmAb, RfmSb, Ecs}
-use Rattle.speed_bin.specs.Kinds.{Effect, Opens, Closes, Manages, Refreshes, Leaves, effect, is_scrub, needs_closed}
+use Rattle.command_words.specs.Kinds.{Effect, Opens, Closes, Manages, Refreshes, Leaves, effect, is_scrub, needs_closed}
 use Rattle.speed_bin.specs.Log.{Log, Issued, open_at, open_after}
 use Rattle.speed_bin.specs.Page.{last_row, keeps_page}
 use Rattle.speed_bin.specs.Rules.{rule_5}

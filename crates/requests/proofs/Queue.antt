@@ -6,7 +6,8 @@ use Rattle.command_words.specs.Geometry.{lines_of}
 use Rattle.speed_bin.specs.declared.header.Header.{Header}
 use Rattle.requests.specs.declared.request.Request.{Request}
 use Rattle.requests.specs.declared.waiting.Waiting.{Waiting}
-use Rattle.requests.specs.Queue.{Step, numbered, is_number, is_served, waiting, waiting_as, shape_of, span, AreInside, AreKnown}
+use Rattle.requests.specs.Queue.{Step, numbered, is_number, is_served, waiting, waiting_as, span, AreInside, AreKnown}
+use Rattle.speed_bin.specs.Header.{shape_of}
 
 pub numbered-append : (h : Header) (n : ℕ) (rs : List Request) (r : Request) (id : ℕ) → id ≡ n + length rs → numbered h n (rs ++ r ∷ []) ≡ numbered h n rs ++ waiting_as (shape_of h) id r ∷ []
 numbered-append h n [] r id e = let f : id ≡ n = omega arith in ap (λ (k : ℕ). waiting_as (shape_of h) k r ∷ []) (sym f)

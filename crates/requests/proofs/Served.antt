@@ -13,7 +13,9 @@ use Rattle.requests.specs.declared.request.Kind.{Kind}
 use Rattle.requests.specs.declared.request.Kind.TheVariants.{Read, Write}
 use Rattle.requests.specs.declared.request.Request.{Request}
 use Rattle.requests.specs.declared.waiting.Waiting.{Waiting}
-use Rattle.requests.specs.Queue.{Step, places, waiting, numbered, shape_of, in_bank, hits, is_row, oldest, is_served, AreInside}
+use Rattle.requests.specs.Queue.{Step, places, waiting, numbered, in_bank, hits, oldest, is_served, AreInside}
+use Rattle.speed_bin.specs.Header.{shape_of}
+use Rattle.speed_bin.specs.Counters.{is_row}
 use Rattle.requests.specs.Choice.{column_for}
 use Rattle.requests.specs.Order.{IsInOrder, Serves, IsServing}
 use Rattle.requests.specs.Requested.{IsQueued}

@@ -11,7 +11,8 @@ use Rattle.requests.specs.declared.request.Kind.{Kind}
 use Rattle.requests.specs.declared.request.Kind.TheVariants.{Read, Write}
 use Rattle.requests.specs.declared.request.Request.{Request}
 use Rattle.requests.specs.declared.waiting.Waiting.{Waiting}
-use Rattle.requests.specs.Queue.{Step, numbered, waiting, waiting_as, shape_of, is_number, is_served, oldest, is_of_line}
+use Rattle.requests.specs.Queue.{Step, numbered, waiting, waiting_as, is_number, is_served, oldest, is_of_line}
+use Rattle.speed_bin.specs.Header.{shape_of}
 use Rattle.requests.specs.Owed.{is_column}
 use Rattle.requests.specs.Order.{served, earlier, Serves, IsServing, AllServing, IsInOrder}
 use Rattle.requests.proofs.Queue.{Rising, rising-offered, rising-filter, rising-waiting, numbered-append}

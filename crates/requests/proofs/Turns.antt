@@ -7,7 +7,7 @@ use Rattle.command_words.specs.declared.place.Bank.{Bank}
 use Rattle.command_words.specs.declared.command.Command.{Command}
 use Rattle.command_words.specs.declared.command.Command.TheVariants.{Act}
 use Rattle.speed_bin.specs.Counts.{commands}
-use Rattle.speed_bin.specs.Kinds.{Opens, Closes, Leaves, effect, is_act, is_precharge, is_scrub, needs_closed}
+use Rattle.command_words.specs.Kinds.{Opens, Closes, Leaves, effect, is_act, is_precharge, is_scrub, needs_closed}
 use Rattle.speed_bin.specs.Log.{Log, Issued, open_at}
 use Rattle.speed_bin.specs.Page.{last_row, keeps_page}
 use Rattle.speed_bin.specs.Rules.{rule_5}
@@ -16,7 +16,9 @@ use Rattle.speed_bin.proofs.Effects.{closes_precharge}
 use Rattle.speed_bin.proofs.Tests.{both}
 use Rattle.requests.specs.declared.request.Request.{Request}
 use Rattle.requests.specs.declared.waiting.Waiting.{Waiting}
-use Rattle.requests.specs.Queue.{Step, places, waiting, waiting_as, shape_of, span, in_bank, hits, is_row, oldest, IsFull}
+use Rattle.requests.specs.Queue.{Step, places, waiting, waiting_as, span, in_bank, hits, oldest, IsFull}
+use Rattle.speed_bin.specs.Header.{shape_of}
+use Rattle.speed_bin.specs.Counters.{is_row}
 use Rattle.requests.specs.Choice.{IsOldestRow, column_for}
 use Rattle.requests.specs.Owed.{is_column, owed_count, Promised, SparesOwed}
 use Rattle.requests.specs.Page.{is_managing, Another, IsPaged, Excuses}

@@ -4,7 +4,8 @@ use Rattle.std.specs.List.{filter}
 use Rattle.speed_bin.specs.declared.header.Header.{Header}
 use Rattle.requests.specs.declared.request.Request.{Request}
 use Rattle.requests.specs.declared.waiting.Waiting.{Waiting}
-use Rattle.requests.specs.Queue.{Step, numbered, waiting, waiting_as, shape_of, is_served}
+use Rattle.requests.specs.Queue.{Step, numbered, waiting, waiting_as, is_served}
+use Rattle.speed_bin.specs.Header.{shape_of}
 
 first_or_later : (k n : ℕ) → n ≤ k → (k ≡ n) ⊎ (n + 1 ≤ k)
 first_or_later k n h = grind arith

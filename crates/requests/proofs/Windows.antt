@@ -6,7 +6,8 @@ use Rattle.std.proofs.Math.Seq.{take-append_seam}
 use Rattle.requests.specs.declared.request.Request.{Request}
 use Rattle.requests.specs.declared.waiting.Waiting.{Waiting}
 use Rattle.speed_bin.specs.declared.header.Header.{Header}
-use Rattle.requests.specs.Queue.{Step, numbered, waiting, waiting_as, shape_of, span, is_served, AreKnown, IsFull}
+use Rattle.requests.specs.Queue.{Step, numbered, waiting, waiting_as, span, is_served, AreKnown, IsFull}
+use Rattle.speed_bin.specs.Header.{shape_of}
 use Rattle.requests.specs.Window.{near, window}
 use Rattle.requests.proofs.Queue.{Rising, rising-waiting, rising-numbered}
 

@@ -11,7 +11,8 @@ use Rattle.requests.specs.declared.request.Kind.{Kind}
 use Rattle.requests.specs.declared.request.Kind.TheVariants.{Read, Write}
 use Rattle.requests.specs.declared.request.Request.{Request}
 use Rattle.requests.specs.declared.waiting.Waiting.{Waiting}
-use Rattle.requests.specs.Queue.{Step, places, shape_of, numbered, waiting, is_served, is_of_line}
+use Rattle.requests.specs.Queue.{Step, places, numbered, waiting, is_served, is_of_line}
+use Rattle.speed_bin.specs.Header.{shape_of}
 
 -- the request under the number, if there is a number and such a request
 abbrev pub named : Option ℕ → List Waiting → List Waiting

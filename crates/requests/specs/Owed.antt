@@ -2,7 +2,7 @@
 use Rattle.std.specs.Prelude.{ℕ, zero, suc, ◌<◌, ◌≡◌, Bool, true, false, ◌&&◌, ◌||◌, if◌then◌else◌, Some, List, [], ◌∷◌}
 use Rattle.command_words.specs.Command.{covers}
 use Rattle.command_words.specs.declared.command.Command.{Command}
-use Rattle.speed_bin.specs.Kinds.{Effect, Opens, Closes, Manages, Refreshes, Leaves, effect, is_rd, is_wr}
+use Rattle.command_words.specs.Kinds.{Effect, Opens, Closes, Manages, Refreshes, Leaves, effect, is_rd, is_wr}
 use Rattle.speed_bin.specs.Log.{Log, open_at}
 use Rattle.requests.specs.declared.waiting.Waiting.{Waiting}
 use Rattle.requests.specs.Queue.{hits, oldest}

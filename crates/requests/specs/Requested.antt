@@ -4,12 +4,13 @@ use Rattle.command_words.specs.Command.{bank_number}
 use Rattle.command_words.specs.Geometry.{IsGroups}
 use Rattle.command_words.specs.Place.{place_of, IsInside}
 use Rattle.speed_bin.specs.Counts.{commands}
-use Rattle.speed_bin.specs.Kinds.{is_act}
+use Rattle.command_words.specs.Kinds.{is_act}
 use Rattle.speed_bin.specs.Page.{keeps_page}
 use Rattle.speed_bin.specs.declared.header.Header.{Header}
 use Rattle.requests.specs.declared.request.Request.{Request}
 use Rattle.requests.specs.declared.waiting.Waiting.{Waiting}
-use Rattle.requests.specs.Queue.{Step, places, waiting, shape_of, span, is_served, AreInside, AreKnown}
+use Rattle.requests.specs.Queue.{Step, places, waiting, span, is_served, AreInside, AreKnown}
+use Rattle.speed_bin.specs.Header.{shape_of}
 use Rattle.requests.specs.Order.{IsInOrder, AreServedOnce, AllServing}
 use Rattle.requests.specs.Owed.{Promised, is_column, owed_count}
 use Rattle.requests.specs.Page.{IsPaged}

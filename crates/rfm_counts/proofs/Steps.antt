@@ -6,7 +6,7 @@ use Rattle.command_words.specs.declared.command.Command.TheVariants.{Act, RfmAb,
 use Rattle.command_words.specs.declared.place.Bank.{Bank}
 use Rattle.speed_bin.specs.declared.header.Header.{Header}
 use Rattle.speed_bin.specs.declared.settings.Settings.{Settings}
-use Rattle.speed_bin.specs.Kinds.{effect, Opens, Manages, Refreshes, Leaves}
+use Rattle.command_words.specs.Kinds.{effect, Opens, Manages, Refreshes, Leaves}
 use Rattle.speed_bin.specs.Log.{Log, raa, raa_after}
 use Rattle.speed_bin.specs.Rules.{rule_9}
 use Rattle.rfm_counts.specs.Held.{Held, HasSameLimits, lowered}

@@ -9,7 +9,7 @@ use Rattle.row_order.specs.Standing.{StandsFor as OrderStandsFor}
 use Rattle.row_order.proofs.EntryLemmas.{once_inside}
 use Rattle.speed_bin.specs.declared.header.Header.{Header}
 use Rattle.speed_bin.specs.declared.settings.Settings.{Settings}
-use Rattle.speed_bin.specs.Kinds.{Effect, Opens, Closes, Manages, Refreshes, Leaves, effect}
+use Rattle.command_words.specs.Kinds.{Effect, Opens, Closes, Manages, Refreshes, Leaves, effect}
 use Rattle.speed_bin.specs.Log.{Log, open_at}
 use Rattle.speed_bin.specs.Counters.{Counter, counters, counters_after, tracked, count_of, mitigated, cnt, after_mitigation, after_close}
 use Rattle.speed_bin.specs.Header.{bound, spare}

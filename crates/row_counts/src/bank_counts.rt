@@ -4,7 +4,7 @@ ghost use Rattle.command_words.specs.declared.command.Command.{Command as AnyCom
 ghost use Rattle.speed_bin.specs.Counters.{cnt, count_of, counters as counters_of, tracked as tracked_in, mitigated};
 ghost use Rattle.speed_bin.specs.Header.{IsSettings};
 ghost use Rattle.speed_bin.specs.Height.{height_of};
-ghost use Rattle.speed_bin.specs.Kinds.{Closes, Manages, effect};
+ghost use Rattle.command_words.specs.Kinds.{Closes, Manages, effect};
 ghost use Rattle.speed_bin.specs.Log.{Log, open_at};
 ghost use Rattle.speed_bin.specs.declared.header.Header.{Header as AnyHeader};
 ghost use Rattle.row_counts.specs.Held.{HasRow, IsOneMore, MayClose, MayMitigate};

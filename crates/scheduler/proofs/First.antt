@@ -2,7 +2,7 @@
 use Rattle.std.proofs.Common.{◌≡◌, ◌∙◌, ℕ, zero, suc, ◌+◌, ◌<◌, Bool, true, false, ◌&&◌, ◌==◌, List, [], ◌∷◌, ◌++◌, Option, Some, None, length, take, get_or, replicate, refl, sym, ap, arith, cond, eq-eqb, slice_get, slice_index_or, subst, ◌⊎◌, inl, inr}
 use Rattle.std.proofs.lemmas.List.{take_more, length-take}
 use Rattle.std.proofs.lemmas.Bool.{eqb-true}
-use Rattle.requests.specs.Queue.{is_row}
+use Rattle.speed_bin.specs.Counters.{is_row}
 use Rattle.requests.specs.declared.waiting.Waiting.{Waiting}
 use Rattle.command_words.specs.Command.{bank_number}
 use Rattle.requests.specs.Queue.{oldest, in_bank, hits}

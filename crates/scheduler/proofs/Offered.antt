@@ -5,7 +5,8 @@ use Rattle.command_words.specs.Command.{bank_number}
 use Rattle.command_words.specs.Geometry.{lines_of}
 use Rattle.speed_bin.specs.declared.header.Header.{Header}
 use Rattle.requests.specs.Page.{Excuses}
-use Rattle.requests.specs.Queue.{Step, places, waiting, waiting_as, shape_of, span, IsFull}
+use Rattle.requests.specs.Queue.{Step, places, waiting, waiting_as, span, IsFull}
+use Rattle.speed_bin.specs.Header.{shape_of}
 use Rattle.requests.specs.Requested.{Requested}
 use Rattle.requests.specs.declared.request.Request.{Request}
 use Rattle.requests.specs.declared.waiting.Waiting.{Waiting}

@@ -10,7 +10,8 @@ use Rattle.speed_bin.specs.declared.header.Header.{Header}
 use Rattle.bank_state.specs.Standing.{Fits}
 use Rattle.requests.specs.Choice.{column_for, IsChosen, IsPrompt, IsSoonest}
 use Rattle.requests.specs.Owed.{is_column, SparesOwed}
-use Rattle.requests.specs.Queue.{Step, places, in_bank, hits, is_row, oldest}
+use Rattle.requests.specs.Queue.{Step, places, in_bank, hits, oldest}
+use Rattle.speed_bin.specs.Counters.{is_row}
 use Rattle.requests.specs.declared.request.Kind.{Kind}
 use Rattle.requests.specs.declared.request.Kind.TheVariants.{Read, Write}
 use Rattle.requests.specs.declared.waiting.Waiting.{Waiting}

@@ -4,7 +4,7 @@ use Rattle.std.specs.List.{remove}
 use Rattle.std.specs.Option.{IsSome}
 use Rattle.command_words.specs.Command.{covers, is_at}
 use Rattle.speed_bin.specs.Below.{all_below}
-use Rattle.speed_bin.specs.Kinds.{effect, Closes, is_mrw, is_precharge, needs_closed}
+use Rattle.command_words.specs.Kinds.{effect, Closes, is_mrw, is_precharge, needs_closed}
 use Rattle.speed_bin.specs.Log.{Log, open_at}
 use Rattle.speed_bin.specs.Rules.{rule_5, rule_9, rule_10, rule_12, rule_14}
 use Rattle.speed_bin.specs.declared.header.Header.{Header}
@@ -329,7 +329,7 @@ record Ending (task : Task) (h : Header) (from clock : ℕ) (log : Log) (ws : Li
   no_write : is_mrw (command_of task) ≡ false
   prompt : IsPrompt h from log clock (command_of task)
 
-never_closes : (t : Bool) (e : Rattle.speed_bin.specs.Kinds.Effect) → (e ≡ Closes → ⊥) → cond t e Rattle.speed_bin.specs.Kinds.Leaves ≡ Closes → ⊥
+never_closes : (t : Bool) (e : Rattle.command_words.specs.Kinds.Effect) → (e ≡ Closes → ⊥) → cond t e Rattle.command_words.specs.Kinds.Leaves ≡ Closes → ⊥
 never_closes true e f g = f g
 never_closes false e f g = cc
 
@@ -337,8 +337,8 @@ ending_of : (task : Task) (h : Header) (from clock : ℕ) (log : Log) (ws : List
 ending_of RfmAll h from clock log ws started = record { ninth = refl; twelfth = refl; fourteenth = at_least _ started; spares = λ b low e. cc; no_write = refl; prompt = tt }
 ending_of Ecs h from clock log ws started = record { ninth = refl; twelfth = refl; fourteenth = at_least _ started; spares = λ b low e. cc; no_write = refl; prompt = tt }
 ending_of RefAll h from clock log ws started = record { ninth = refl; twelfth = refl; fourteenth = at_least _ started; spares = λ b low e. cc; no_write = refl; prompt = tt }
-ending_of (RefSame address) h from clock log ws started = record { ninth = refl; twelfth = refl; fourteenth = at_least _ started; spares = λ b low e. absurd (never_closes (is_at address b) Rattle.speed_bin.specs.Kinds.Refreshes (λ x. cc) e); no_write = refl; prompt = tt }
-ending_of (RfmSame address) h from clock log ws started = record { ninth = refl; twelfth = refl; fourteenth = at_least _ started; spares = λ b low e. absurd (never_closes (is_at address b) Rattle.speed_bin.specs.Kinds.Manages (λ x. cc) e); no_write = refl; prompt = tt }
+ending_of (RefSame address) h from clock log ws started = record { ninth = refl; twelfth = refl; fourteenth = at_least _ started; spares = λ b low e. absurd (never_closes (is_at address b) Rattle.command_words.specs.Kinds.Refreshes (λ x. cc) e); no_write = refl; prompt = tt }
+ending_of (RfmSame address) h from clock log ws started = record { ninth = refl; twelfth = refl; fourteenth = at_least _ started; spares = λ b low e. absurd (never_closes (is_at address b) Rattle.command_words.specs.Kinds.Manages (λ x. cc) e); no_write = refl; prompt = tt }
 
 tenth_of : (task : Task) (h : Header) (start : ℕ) (log : Log) → IsTasked h log start (Some task) → IsTrue (rule_10 h (command_of task) log)
 tenth_of RfmAll h start log t = refl

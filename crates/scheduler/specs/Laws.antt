@@ -10,7 +10,7 @@ use Rattle.speed_bin.specs.Alert.{alert}
 use Rattle.speed_bin.specs.Below.{all_below}
 use Rattle.speed_bin.specs.Gap.{n_max}
 use Rattle.speed_bin.specs.Header.{IsAccepted}
-use Rattle.speed_bin.specs.Kinds.{is_mrw, is_precharge, is_rfm_all, needs_closed, refreshes}
+use Rattle.command_words.specs.Kinds.{is_mrw, is_precharge, is_rfm_all, needs_closed, refreshes}
 use Rattle.speed_bin.specs.Log.{Issued, Log, open_at, refs}
 use Rattle.speed_bin.specs.Rules.{is_on_time, rule_5, rule_6, rule_7, rule_8, rule_13}
 use Rattle.speed_bin.specs.declared.header.Header.{Header}

@@ -4,7 +4,7 @@ use Rattle.std.specs.List.{remove}
 use Rattle.command_words.specs.declared.command.Command.{Command}
 use Rattle.command_words.specs.declared.command.Command.TheVariants.{RfmAb}
 use Rattle.speed_bin.specs.Alert.{alert}
-use Rattle.speed_bin.specs.Kinds.{is_mrw, is_rfm_all}
+use Rattle.command_words.specs.Kinds.{is_mrw, is_rfm_all}
 use Rattle.speed_bin.specs.Log.{Log}
 use Rattle.speed_bin.specs.Rules.{MayFollow, is_wanted, all_closed, rule_9, rule_10, rule_12, rule_14}
 use Rattle.speed_bin.specs.declared.header.Header.{Header}

@@ -3,7 +3,7 @@ ghost use Rattle.std.specs.Prelude.{◌≡◌, ℕ, ◌<◌, ◌≤◌, ◌==◌
 ghost use Rattle.command_words.specs.Command.{bank_number};
 ghost use Rattle.speed_bin.specs.Log.{Log, open_at};
 ghost use Rattle.bank_state.specs.Standing.{StandsFor as BanksStandFor};
-ghost use Rattle.requests.specs.Queue.{is_row};
+ghost use Rattle.speed_bin.specs.Counters.{is_row};
 ghost use Rattle.scheduler.specs.Board.{IsBoardOf};
 
 use bank_state::Banks;

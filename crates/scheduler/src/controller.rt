@@ -1,9 +1,9 @@
 //! The controller: what is asked of it, and what it holds.
 ghost use Rattle.std.specs.Prelude.{◌≡◌, ℕ, ◌+◌, ◌<◌, ◌^◌, ◌++◌, List, [], ◌∷◌, length, true, false, IfOk, IfErr, OnErr, IsErr, IsTrue, ◌↔◌};
 ghost use Rattle.command_words.specs.Geometry.{lines_of};
-ghost use Rattle.speed_bin.specs.Header.{IsAccepted};
+ghost use Rattle.speed_bin.specs.Header.{IsAccepted, shape_of};
 ghost use Rattle.speed_bin.specs.declared.header.Header.{Header as AnyHeader};
-ghost use Rattle.requests.specs.Queue.{Step, waiting, shape_of, span, IsFull};
+ghost use Rattle.requests.specs.Queue.{Step, waiting, span, IsFull};
 ghost use Rattle.requests.specs.declared.request.Request.{Request as AnyRequest};
 
 use crate::Clock;

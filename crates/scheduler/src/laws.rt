@@ -7,7 +7,7 @@ ghost use Rattle.speed_bin.specs.Alert.{alert};
 ghost use Rattle.speed_bin.specs.Counts.{commands};
 ghost use Rattle.speed_bin.specs.Gap.{n_max};
 ghost use Rattle.speed_bin.specs.Header.{IsAccepted};
-ghost use Rattle.speed_bin.specs.Kinds.{is_act, is_nop};
+ghost use Rattle.command_words.specs.Kinds.{is_act, is_nop};
 ghost use Rattle.speed_bin.specs.Log.{open_at};
 ghost use Rattle.speed_bin.specs.Page.{keeps_page};
 ghost use Rattle.speed_bin.specs.Rules.{broken, verdict};

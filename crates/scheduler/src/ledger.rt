@@ -2,7 +2,7 @@
 ghost use Rattle.std.specs.Prelude.{◌≡◌, ℕ, ◌+◌, ◌<◌, ◌≤◌, ◌^◌, ◌&&◌, List, [], ◌∷◌, length, min, IfOk, IsTrue, ◌↔◌, false};
 ghost use Rattle.command_words.specs.Command.{covers};
 ghost use Rattle.speed_bin.specs.Header.{IsAccepted};
-ghost use Rattle.speed_bin.specs.Kinds.{effect, Closes};
+ghost use Rattle.command_words.specs.Kinds.{effect, Closes};
 ghost use Rattle.speed_bin.specs.Log.{Log};
 ghost use Rattle.speed_bin.specs.Rules.{rule_4, rule_5};
 ghost use Rattle.speed_bin.specs.declared.header.Header.{Header as AnyHeader};

@@ -1,7 +1,7 @@
 //! One turn of the controller, by the numbered steps of the policy.
 ghost use Rattle.std.specs.Prelude.{◌≡◌, ℕ, ◌+◌, ◌<◌, ◌≤◌, ◌^◌, List, [], ◌∷◌, length, Option, Some, None, Bool, true, false, max, is_some, IfSome, IfNone, IsTrue, ◌↔◌, slice_get};
 ghost use Rattle.speed_bin.specs.Alert.{alert as alert_of};
-ghost use Rattle.speed_bin.specs.Kinds.{is_rfm_all};
+ghost use Rattle.command_words.specs.Kinds.{is_rfm_all};
 ghost use Rattle.speed_bin.specs.Log.{Log};
 ghost use Rattle.speed_bin.specs.declared.header.Header.{Header as AnyHeader};
 ghost use Rattle.command_words.specs.declared.command.Command.TheVariants.{Mrw as AnyMrw, PreAb as AnyPreAb};

@@ -3,7 +3,7 @@ use Rattle.std.proofs.Common.{◌≡◌, ◌∙◌, ℕ, suc, ◌+◌, ◌*◌, 
 use Rattle.std.proofs.lemmas.List.{length-replicate}
 use Rattle.speed_bin.specs.declared.header.Header.{Header}
 use Rattle.speed_bin.specs.Below.{any_below}
-use Rattle.speed_bin.specs.Kinds.{Effect, Opens, Closes, Manages, Refreshes, Leaves, effect, is_rfm_all}
+use Rattle.command_words.specs.Kinds.{Effect, Opens, Closes, Manages, Refreshes, Leaves, effect, is_rfm_all}
 use Rattle.speed_bin.specs.Log.{Issued, Log, open_after, open_at}
 use Rattle.speed_bin.specs.Counters.{Counter, count_of, tracked, counters, is_row, acts, acts_after, cnt}
 use Rattle.speed_bin.specs.Alert.{is_hot, closes_some, alert_after, alert}

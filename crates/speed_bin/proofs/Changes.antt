@@ -3,7 +3,7 @@
 use Rattle.std.proofs.Common.{◌≡◌, ◌≢◌, ◌∙◌, ℕ, zero, suc, ◌+◌, ◌<◌, ◌≤◌, ◌⊎◌, Bool, true, false, nat_le, nat_lt, refl, sym, arith, inl, inr, Option, Some, None, cond, List, [], ◌∷◌, length, get_or, set, replicate, length-set, get_or-set_same, get_or-set_other}
 use Rattle.std.proofs.lemmas.Bool.Decides.{nat_tests}
 use Rattle.speed_bin.specs.declared.header.Header.{Header}
-use Rattle.speed_bin.specs.Kinds.{Effect, Opens, Closes, Manages, Refreshes, Leaves, effect}
+use Rattle.command_words.specs.Kinds.{Effect, Opens, Closes, Manages, Refreshes, Leaves, effect}
 use Rattle.speed_bin.specs.Log.{Log, open_at}
 use Rattle.speed_bin.specs.Counters.{Counter, is_ahead, counters, counters_after, mitigated, tracked, count_of, after_mitigation}
 use Rattle.speed_bin.specs.Marks.{Keeps}

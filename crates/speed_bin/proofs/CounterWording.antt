@@ -12,7 +12,7 @@ use Rattle.speed_bin.proofs.Effects.{opens_act}
 use Rattle.std.proofs.lemmas.List.Sums.{take_while-cons}
 use Rattle.std.proofs.Common.{filter, not, get_or, set, find, ◌||◌, ◌≤◌, max, le_refl, get_or-set_same, get_or-set_other, ◌≡◌, ◌≢◌, ◌∙◌, ℕ, zero, suc, ◌+◌, ◌<◌, ◌⊎◌, Bool, true, false, ◌==◌, if◌then◌else◌, refl, sym, ap, ap₂, arith, inl, inr, Option, Some, None, cond, List, [], ◌∷◌, length, replicate, eq-eqb, ne_eqb, length-set, add-one}
 use Rattle.speed_bin.specs.declared.header.Header.{Header}
-use Rattle.speed_bin.specs.Kinds.{Effect, Opens, Closes, Manages, Refreshes, Leaves, effect}
+use Rattle.command_words.specs.Kinds.{Effect, Opens, Closes, Manages, Refreshes, Leaves, effect}
 use Rattle.speed_bin.specs.Log.{Issued, Log, open_at}
 use Rattle.speed_bin.specs.Counters.{is_ahead, tracked, Counter, counters, counters_after, mitigated, is_row, count_of, cnt, acts, acts_after, after_close, after_mitigation}
 use Rattle.speed_bin.proofs.Wording.{Spot, spots, since, number}

@@ -5,7 +5,7 @@ use Rattle.command_words.specs.declared.command.Command.{Command}
 use Rattle.command_words.specs.declared.command.Command.TheVariants.{Act, PrePb, PreSb, PreAb, RefSb, RfmAb, RfmSb}
 use Rattle.speed_bin.specs.declared.header.Header.{Header}
 use Rattle.speed_bin.specs.declared.timing.Timing.{Timing}
-use Rattle.speed_bin.specs.Kinds.{Effect, Opens, Closes, Manages, Leaves, effect, is_act, is_precharge, is_rfm_all, needs_closed}
+use Rattle.command_words.specs.Kinds.{Effect, Opens, Closes, Manages, Leaves, effect, is_act, is_precharge, is_rfm_all, needs_closed}
 use Rattle.speed_bin.specs.Log.{Issued, Log, open_at}
 use Rattle.speed_bin.specs.Alert.{closes, closes_some, alert}
 use Rattle.speed_bin.specs.Gap.{Entry, greatest, meet, gap_table, gap}

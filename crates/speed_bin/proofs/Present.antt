@@ -6,7 +6,7 @@ use Rattle.command_words.specs.declared.command.Command.{Command}
 use Rattle.command_words.specs.declared.command.Command.TheVariants.{Act, Rd, Wr, PrePb, PreSb, PreAb, RefAb, RefSb, RfmAb, RfmSb, Mrw, Ecs, Nop}
 use Rattle.speed_bin.specs.declared.header.Header.{Header}
 use Rattle.speed_bin.specs.Below.{all_below, any_below}
-use Rattle.speed_bin.specs.Kinds.{Effect, Opens, Closes, Manages, Refreshes, Leaves, effect, needs_closed}
+use Rattle.command_words.specs.Kinds.{Effect, Opens, Closes, Manages, Refreshes, Leaves, effect, needs_closed}
 use Rattle.speed_bin.specs.Log.{Issued, Log, open_after, open_at, raa, raa_after}
 use Rattle.speed_bin.specs.Counters.{Counter, count_of, tracked, counters, counters_after, after_close, after_mitigation, mitigated, cnt, acts, acts_after, is_row}
 use Rattle.speed_bin.specs.Alert.{closes, closes_some, is_hot}

@@ -3,7 +3,7 @@ use Rattle.std.proofs.Common.{replicate, ◌≡◌, ◌≢◌, ◌∙◌, ℕ, z
 use Rattle.std.specs.List.{list_any}
 use Rattle.std.proofs.lemmas.Bool.Decides.{nat_tests}
 use Rattle.speed_bin.specs.declared.header.Header.{Header}
-use Rattle.speed_bin.specs.Kinds.{Effect, Opens, Closes, Manages, Refreshes, Leaves}
+use Rattle.command_words.specs.Kinds.{Effect, Opens, Closes, Manages, Refreshes, Leaves}
 use Rattle.speed_bin.specs.Log.{open_after}
 use Rattle.speed_bin.specs.Counters.{Counter, is_ahead, tracked, count_of, is_row, after_close, after_mitigation, counters_after, acts_after}
 use Rattle.speed_bin.proofs.Tests.{or_false, true_or_false}

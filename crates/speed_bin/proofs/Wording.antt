@@ -7,7 +7,7 @@ use Rattle.command_words.specs.Command.{bank_number, covers}
 use Rattle.command_words.specs.declared.command.Command.{Command}
 use Rattle.command_words.specs.declared.command.Command.TheVariants.{Act, Rd, Wr, PrePb, PreSb, PreAb, RefAb, RefSb, RfmAb, RfmSb, Mrw, Ecs, Nop}
 use Rattle.speed_bin.specs.declared.header.Header.{Header}
-use Rattle.speed_bin.specs.Kinds.{Effect, Opens, Closes, Manages, Refreshes, Leaves, effect, is_act, is_precharge, is_rfm_all, refreshes, is_scrub}
+use Rattle.command_words.specs.Kinds.{Effect, Opens, Closes, Manages, Refreshes, Leaves, effect, is_act, is_precharge, is_rfm_all, refreshes, is_scrub}
 use Rattle.speed_bin.specs.Log.{Issued, Log, open_at, open_after, refs, scrubs, raa, raa_after}
 use Rattle.speed_bin.specs.Alert.{alert, alert_after, closes_some, is_hot}
 use Rattle.speed_bin.specs.Rules.{verdict, verdict_after, broken, first_failing}

@@ -4,7 +4,7 @@ use Rattle.command_words.specs.Command.{covers}
 use Rattle.command_words.specs.declared.command.Command.{Command}
 use Rattle.command_words.specs.declared.command.Command.TheVariants.{Nop}
 use Rattle.speed_bin.specs.Below.{any_below}
-use Rattle.speed_bin.specs.Kinds.{is_act, is_rd, is_wr, is_precharge, is_ref_all, is_ref_same, is_rfm_all, is_rfm_same, is_mrw, is_scrub, is_nop, needs_closed, group_of}
+use Rattle.command_words.specs.Kinds.{is_act, is_rd, is_wr, is_precharge, is_ref_all, is_ref_same, is_rfm_all, is_rfm_same, is_mrw, is_scrub, is_nop, needs_closed, group_of}
 use Rattle.speed_bin.specs.declared.timing.Timing.{Timing}
 
 -- a row of the table: whether it applies to two commands, and its clocks

@@ -1,7 +1,6 @@
 pub mod Timing
 pub mod Version
 pub mod Below
-pub mod Kinds
 pub mod Log
 pub mod Counters
 pub mod Alert

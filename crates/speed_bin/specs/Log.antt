@@ -4,7 +4,7 @@
 -- definition says what one more command does. A bank is spoken of by its number, group * 4 + address, below 32.
 use Rattle.std.specs.Prelude.{ℕ, ◌+◌, ◌-◌, ◌/◌, List, [], ◌∷◌, count_by, Option, Some, None}
 use Rattle.command_words.specs.declared.command.Command.{Command}
-use Rattle.speed_bin.specs.Kinds.{Effect, Opens, Closes, Manages, Refreshes, Leaves, effect, refreshes, is_scrub}
+use Rattle.command_words.specs.Kinds.{Effect, Opens, Closes, Manages, Refreshes, Leaves, effect, refreshes, is_scrub}
 use Rattle.speed_bin.specs.declared.header.Header.{Header}
 
 -- one place of a log: a command and the clock at which it was issued
@@ -14,6 +14,11 @@ pub record Issued : Type 0 where
 
 abbrev pub Log : Type 0
 Log = List Issued
+
+-- the clock of the last place, 0 where there is none
+abbrev pub last_clock : Log → ℕ
+last_clock [] = 0
+last_clock (place ∷ log) = place.clock
 
 -- ---- Open rows
 

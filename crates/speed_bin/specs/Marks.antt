@@ -5,7 +5,7 @@ use Rattle.command_words.specs.declared.place.Bank.{Bank}
 use Rattle.command_words.specs.declared.command.Command.{Command}
 use Rattle.command_words.specs.declared.command.Command.TheVariants.{Act, Rd, Wr, PrePb}
 use Rattle.speed_bin.specs.Below.{all_below}
-use Rattle.speed_bin.specs.Kinds.{Effect, Opens, Closes, Manages, Refreshes, Leaves, effect, is_rfm_all}
+use Rattle.command_words.specs.Kinds.{Effect, Opens, Closes, Manages, Refreshes, Leaves, effect, is_rfm_all}
 use Rattle.speed_bin.specs.Log.{Issued, Log}
 use Rattle.speed_bin.specs.Counters.{acts}
 use Rattle.speed_bin.specs.Rules.{rule_1, rule_2, rule_4, rule_5, rule_12}

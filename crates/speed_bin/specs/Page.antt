@@ -1,7 +1,7 @@
 -- Open page: a row stays open until another one of its bank is wanted, so none is opened again without need.
 use Rattle.std.specs.Prelude.{ℕ, Bool, true, false, not, ◌&&◌, ◌==◌, if◌then◌else◌, [], ◌∷◌, Option, Some, None}
 use Rattle.speed_bin.specs.Below.{all_below}
-use Rattle.speed_bin.specs.Kinds.{Effect, Opens, Closes, Manages, Refreshes, Leaves, effect, is_scrub}
+use Rattle.command_words.specs.Kinds.{Effect, Opens, Closes, Manages, Refreshes, Leaves, effect, is_scrub}
 use Rattle.speed_bin.specs.Log.{Log}
 
 -- the row that the bank's last ACT opened, unless a REF, RFM or ECS that covers the bank stands after it

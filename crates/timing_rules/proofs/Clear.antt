@@ -6,7 +6,7 @@ use Rattle.std.proofs.lemmas.Bool.{leb-true, le-leb}
 use Rattle.command_words.specs.declared.command.Command.{Command}
 use Rattle.command_words.specs.declared.command.Command.TheVariants.{PrePb, PreSb, PreAb}
 use Rattle.speed_bin.specs.Gap.{Entry, greatest, gap, gap_table, meet}
-use Rattle.speed_bin.specs.Kinds.{is_act, is_rd, is_wr, is_precharge, is_ref_all, is_ref_same, is_rfm_all, is_rfm_same, is_mrw, is_scrub, is_nop, needs_closed, group_of}
+use Rattle.command_words.specs.Kinds.{is_act, is_rd, is_wr, is_precharge, is_ref_all, is_ref_same, is_rfm_all, is_rfm_same, is_mrw, is_scrub, is_nop, needs_closed, group_of}
 use Rattle.speed_bin.specs.Log.{Log, Issued}
 use Rattle.speed_bin.specs.Rules.{rule_2}
 use Rattle.speed_bin.specs.declared.timing.Timing.{Timing}

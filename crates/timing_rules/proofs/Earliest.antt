@@ -5,7 +5,7 @@ use Rattle.std.specs.List.{list_all}
 use Rattle.std.proofs.lemmas.Bool.{le-leb, leb-true}
 use Rattle.command_words.specs.declared.command.Command.{Command}
 use Rattle.speed_bin.specs.Gap.{Entry, greatest, gap, gap_table}
-use Rattle.speed_bin.specs.Kinds.{is_act}
+use Rattle.command_words.specs.Kinds.{is_act}
 use Rattle.speed_bin.specs.Log.{Log, Issued}
 use Rattle.speed_bin.specs.Rules.{MayFollow, rule_1, rule_2, rule_3, first_failing}
 use Rattle.speed_bin.specs.Timing.{IsTiming}

@@ -5,7 +5,7 @@ use Rattle.std.proofs.lemmas.List.{length-set, length-replicate, get_or-replicat
 use Rattle.command_words.specs.Command.{bank_number, covers, is_at}
 use Rattle.command_words.specs.declared.place.Bank.{Bank as BankPlace}
 use Rattle.command_words.specs.declared.command.Command.{Command}
-use Rattle.speed_bin.specs.Kinds.{group_of}
+use Rattle.command_words.specs.Kinds.{group_of}
 use Rattle.speed_bin.specs.Log.{Log}
 use Rattle.timing_rules.specs.Scope.{IsScope, overlap_of}
 use Rattle.timing_rules.specs.declared.scope.Scope.{Scope}

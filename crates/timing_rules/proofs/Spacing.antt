@@ -4,7 +4,7 @@ use Rattle.std.specs.List.{list_all, filter}
 use Rattle.std.proofs.lemmas.Bool.{leb-true, le-leb}
 use Rattle.command_words.specs.declared.command.Command.{Command}
 use Rattle.speed_bin.specs.Gap.{Entry, greatest, gap, gap_table}
-use Rattle.speed_bin.specs.Kinds.{is_act}
+use Rattle.command_words.specs.Kinds.{is_act}
 use Rattle.speed_bin.specs.Log.{Log, Issued}
 use Rattle.speed_bin.specs.Rules.{rule_1, rule_2, rule_3}
 use Rattle.speed_bin.specs.declared.timing.Timing.{Timing}

@@ -1,7 +1,7 @@
 -- The rows of the gap table that can apply behind each kind of first command, and their greatest entry.
 use Rattle.std.proofs.Common.{◌≡◌, ◌∙◌, ℕ, ◌+◌, ◌-◌, Bool, true, false, not, ◌&&◌, ◌||◌, ◌==◌, List, [], ◌∷◌, max, if◌then◌else◌, refl, sym, ap, arith}
 use Rattle.speed_bin.specs.Gap.{Entry, greatest, gap, meet}
-use Rattle.speed_bin.specs.Kinds.{is_act, is_rd, is_wr, is_precharge, needs_closed, is_nop, group_of}
+use Rattle.command_words.specs.Kinds.{is_act, is_rd, is_wr, is_precharge, needs_closed, is_nop, group_of}
 use Rattle.speed_bin.specs.declared.timing.Timing.{Timing}
 use Rattle.command_words.specs.declared.place.Bank.{Bank}
 use Rattle.command_words.specs.declared.command.Command.{Command}

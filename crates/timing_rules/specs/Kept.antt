@@ -5,7 +5,7 @@ use Rattle.command_words.specs.declared.place.Bank.{Bank as BankPlace}
 use Rattle.command_words.specs.declared.command.Command.{Command}
 use Rattle.command_words.specs.declared.command.Command.TheVariants.{PrePb, PreSb, PreAb}
 use Rattle.speed_bin.specs.Below.{any_below}
-use Rattle.speed_bin.specs.Kinds.{group_of}
+use Rattle.command_words.specs.Kinds.{group_of}
 use Rattle.speed_bin.specs.Log.{Log}
 use Rattle.timing_rules.specs.Scope.{is_within}
 use Rattle.timing_rules.specs.declared.scope.Scope.{Scope}

@@ -3,7 +3,7 @@ use Rattle.std.specs.Prelude.{ℕ, ◌+◌, ◌-◌, Bool, not, ◌&&◌, ◌||�
 use Rattle.std.specs.List.{list_all}
 use Rattle.command_words.specs.declared.command.Command.{Command}
 use Rattle.speed_bin.specs.Gap.{meet}
-use Rattle.speed_bin.specs.Kinds.{is_act, is_rd, is_wr, is_precharge, is_ref_all, is_ref_same, is_rfm_all, is_rfm_same, is_mrw, is_scrub, is_nop, needs_closed, group_of}
+use Rattle.command_words.specs.Kinds.{is_act, is_rd, is_wr, is_precharge, is_ref_all, is_ref_same, is_rfm_all, is_rfm_same, is_mrw, is_scrub, is_nop, needs_closed, group_of}
 use Rattle.speed_bin.specs.Log.{Log, Issued}
 use Rattle.speed_bin.specs.declared.timing.Timing.{Timing}
 use Rattle.timing_rules.specs.Kept.{is_any, closes_one, closes_address, closes_all}

@@ -3,7 +3,7 @@
 ghost use Rattle.std.specs.Prelude.{ℕ, ◌≡◌, ◌<◌, ◌≤◌, ◌^◌, ◌==◌, ◌&&◌, not, max, if◌then◌else◌};
 ghost use Rattle.command_words.specs.declared.place.Bank.{Bank};
 ghost use Rattle.speed_bin.specs.Gap.{gap, meet};
-ghost use Rattle.speed_bin.specs.Kinds.{group_of, is_nop};
+ghost use Rattle.command_words.specs.Kinds.{group_of, is_nop};
 ghost use Rattle.speed_bin.specs.Timing.{IsClocks, IsTiming};
 
 use crate::kinds::{

@@ -2,7 +2,7 @@
 ghost use Rattle.std.specs.Prelude.{ℕ, ◌≡◌, ◌+◌, ◌<◌, ◌≤◌, ◌↔◌, ◌^◌, ◌&&◌, [], ◌∷◌, IsTrue, Option, IfOk, IsNone};
 ghost use Rattle.circular_buffer.specs.Buffer.{buffer};
 ghost use Rattle.command_words.specs.Command.{covers};
-ghost use Rattle.speed_bin.specs.Kinds.{group_of};
+ghost use Rattle.command_words.specs.Kinds.{group_of};
 ghost use Rattle.speed_bin.specs.Log.{Log};
 ghost use Rattle.speed_bin.specs.Rules.{MayFollow, rule_1, rule_2, rule_3, first_failing};
 ghost use Rattle.speed_bin.specs.Timing.{IsTiming};

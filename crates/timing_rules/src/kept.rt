@@ -2,7 +2,7 @@
 ghost use Rattle.std.specs.Prelude.{ℕ, ◌≡◌, ◌<◌, ◌&&◌, ◌==◌, Bool, true, if◌then◌else◌, [], ◌∷◌};
 ghost use Rattle.command_words.specs.Command.{covers, is_at};
 ghost use Rattle.command_words.specs.declared.command.Command.{Command};
-ghost use Rattle.speed_bin.specs.Kinds.{group_of};
+ghost use Rattle.command_words.specs.Kinds.{group_of};
 ghost use Rattle.speed_bin.specs.Log.{Log};
 ghost use Rattle.timing_rules.specs.Kept.{last_of, touches};
 ghost use Rattle.timing_rules.specs.Scope.{IsScope};

@@ -1,6 +1,6 @@
 //! Kinds of commands.
 ghost use Rattle.std.specs.Prelude.{◌≡◌, ◌<◌, ◌||◌};
-ghost use Rattle.speed_bin.specs.Kinds.{group_of, is_act, is_nop, is_precharge, is_rd, is_wr, needs_closed};
+ghost use Rattle.command_words.specs.Kinds.{group_of, is_act, is_nop, is_precharge, is_rd, is_wr, needs_closed};
 
 use command_words::Command;
 

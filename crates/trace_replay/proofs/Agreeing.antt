@@ -10,7 +10,7 @@ use Rattle.command_words.specs.declared.command.Command.{Command}
 use Rattle.command_words.specs.declared.command.Command.TheVariants.{Act, Rd, Wr, PrePb, PreSb, PreAb, RefAb, RefSb, RfmAb, RfmSb, Mrw, Ecs, Nop}
 use Rattle.command_words.specs.declared.words.Words.{Words}
 use Rattle.speed_bin.specs.Alert.{alert}
-use Rattle.speed_bin.specs.Kinds.{is_wr}
+use Rattle.command_words.specs.Kinds.{is_wr}
 use Rattle.speed_bin.specs.Log.{Log}
 use Rattle.speed_bin.specs.Marks.{is_bank, is_in_range}
 use Rattle.speed_bin.specs.Rules.{all_closed, broken, broken_at_end}

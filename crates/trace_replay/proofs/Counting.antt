@@ -5,7 +5,7 @@ use Rattle.std.proofs.lemmas.List.Sums.{count_by-le-length}
 use Rattle.command_words.specs.declared.command.Command.{Command}
 use Rattle.speed_bin.specs.Alert.{alert}
 use Rattle.speed_bin.specs.Counts.{commands, alerts}
-use Rattle.speed_bin.specs.Kinds.{is_act, is_rd, is_wr, is_precharge, is_ref_all, is_ref_same, is_rfm_all, is_rfm_same, is_scrub}
+use Rattle.command_words.specs.Kinds.{is_act, is_rd, is_wr, is_precharge, is_ref_all, is_ref_same, is_rfm_all, is_rfm_same, is_scrub}
 use Rattle.speed_bin.specs.Log.{Issued, Log}
 use Rattle.speed_bin.specs.declared.header.Header.{Header}
 use Rattle.trace_replay.specs.Counts.{counts_of, one_more, with_alert, with_command, AreFew}

@@ -2,12 +2,13 @@
 use Rattle.std.proofs.Common.{◌≡◌, ◌∙◌, ℕ, ◌+◌, ◌*◌, ◌/◌, ◌≤◌, ◌⊎◌, inl, inr, true, false, Option, None, List, [], ◌∷◌, length, sum, max, refl, sym, ap, subst, arith}
 use Rattle.speed_bin.specs.Counts.{commands}
 use Rattle.speed_bin.specs.Gap.{n_max}
-use Rattle.speed_bin.specs.Kinds.{is_act}
+use Rattle.command_words.specs.Kinds.{is_act}
 use Rattle.speed_bin.specs.Page.{keeps_page}
 use Rattle.speed_bin.specs.Rules.{broken_at_end}
 use Rattle.speed_bin.specs.declared.header.Header.{Header}
 use Rattle.ddr_text.specs.declared.lines.TraceLine.{TraceLine}
-use Rattle.requests.specs.Queue.{Step as NumberedStep, places, waiting, shape_of, IsFull}
+use Rattle.requests.specs.Queue.{Step as NumberedStep, places, waiting, IsFull}
+use Rattle.speed_bin.specs.Header.{shape_of}
 use Rattle.requests.specs.declared.request.Request.{Request as Asked}
 use Rattle.requests.specs.declared.waiting.Waiting.{Waiting}
 use Rattle.scheduler.specs.Controller.{StandsFor as ControllerFor, from_of as controller_from}

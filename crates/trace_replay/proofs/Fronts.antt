@@ -9,7 +9,7 @@ use Rattle.ddr_text.specs.Opening.{parts_of, is_long}
 use Rattle.ddr_text.specs.declared.lines.LineFault.{LineFault}
 use Rattle.ddr_text.specs.declared.lines.TraceLine.{TraceLine}
 use Rattle.ddr_text.specs.declared.lines.TraceLine.TheVariants.{Idle}
-use Rattle.requests.specs.Queue.{shape_of}
+use Rattle.speed_bin.specs.Header.{shape_of}
 use Rattle.reports.specs.Barriers.{idle_clocks}
 use Rattle.reports.specs.Report.{report}
 use Rattle.trace_replay.specs.Job.{Traced, clocks_of, trace_from, trace_of, if_read, is_full, continued, ended, at_end, refused_behind, fault_reason}

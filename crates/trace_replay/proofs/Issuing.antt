@@ -14,7 +14,8 @@ use Rattle.ddr_text.specs.Spelling.{spelled}
 use Rattle.ddr_text.specs.declared.lines.TraceLine.{TraceLine}
 use Rattle.requests.specs.Choice.{IsChosen, IsOldestHit}
 use Rattle.requests.specs.Order.{Serves as ServesNumbered, IsServing}
-use Rattle.requests.specs.Queue.{Step as NumberedStep, places, shape_of, waiting}
+use Rattle.requests.specs.Queue.{Step as NumberedStep, places, waiting}
+use Rattle.speed_bin.specs.Header.{shape_of}
 use Rattle.requests.specs.declared.request.Kind.{Kind}
 use Rattle.requests.specs.declared.request.Request.{Request as Asked}
 use Rattle.requests.specs.declared.request.RequestId.{RequestId}

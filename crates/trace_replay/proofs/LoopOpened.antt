@@ -8,7 +8,7 @@ use Rattle.ddr_text.specs.Opening.{Accepts, Refuses, opening_of, IsOpening, IsAn
 use Rattle.ddr_text.specs.declared.opening.Opening.{Opening}
 use Rattle.ddr_text.specs.declared.opening.Opening.TheVariants as opens
 use Rattle.ddr_text.specs.declared.lines.TraceLine.{TraceLine}
-use Rattle.requests.specs.Queue.{shape_of}
+use Rattle.speed_bin.specs.Header.{shape_of}
 use Rattle.trace_replay.specs.Job.{trace_of, Traced, IsJobOf, IsNoJob}
 use Rattle.trace_replay.specs.Reading.{Continues}
 use Rattle.trace_replay.specs.Replay.{JobAnswers, TraceAnswers, Answers, IsServed, TraceEnds, RunAnswers, IsUnrefused}

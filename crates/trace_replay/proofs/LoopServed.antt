@@ -6,12 +6,11 @@ use Rattle.std.proofs.KnownBytes.{Appends-trans, Appends-nil}
 use Rattle.command_words.specs.Geometry.{Shape}
 use Rattle.ddr_io.specs.Line.{next_bytes}
 use Rattle.ddr_io.specs.Sink.{AppendsPrefix}
-use Rattle.speed_bin.specs.Header.{IsAccepted}
+use Rattle.speed_bin.specs.Header.{IsAccepted, shape_of}
 use Rattle.speed_bin.specs.declared.header.Header.{Header}
 use Rattle.ddr_text.specs.Spelling.{spelled}
 use Rattle.ddr_text.specs.declared.lines.TraceLine.{TraceLine}
 use Rattle.ddr_text.specs.declared.lines.ReportLine.TheVariants.{End as EndLine}
-use Rattle.requests.specs.Queue.{shape_of}
 use Rattle.reports.specs.Runs.{Run}
 use Rattle.reports.specs.Delivered.{AreInside}
 use Rattle.reports.specs.Report.{report}

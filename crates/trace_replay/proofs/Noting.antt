@@ -6,7 +6,7 @@ use Rattle.std.proofs.lemmas.Option.{slice_get-map, slice_get_within}
 use Rattle.circular_buffer.proofs.Places.{slice_get-some, slice_get-append_right}
 use Rattle.command_words.specs.declared.command.Command.{Command}
 use Rattle.command_words.specs.declared.command.Command.TheVariants.{Act, Rd, Wr, PrePb, PreSb, PreAb, RefAb, RefSb, RfmAb, RfmSb, Mrw, Ecs, Nop}
-use Rattle.speed_bin.specs.Kinds.{is_wr}
+use Rattle.command_words.specs.Kinds.{is_wr}
 use Rattle.speed_bin.specs.declared.header.Header.{Header}
 use Rattle.error_scrub.specs.declared.cells.LineRead.{LineRead}
 use Rattle.device_core.specs.Steps.{Step as DeviceStep}

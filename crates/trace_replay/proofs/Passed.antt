@@ -4,13 +4,13 @@ use Rattle.std.specs.List.{flat_map}
 use Rattle.std.specs.Io.KnownBytes.{Appends}
 use Rattle.std.proofs.KnownBytes.{Appends-trans}
 use Rattle.std.proofs.lemmas.List.Sums.{sum_by-append}
-use Rattle.speed_bin.specs.Header.{IsAccepted}
+use Rattle.speed_bin.specs.Header.{IsAccepted, shape_of}
 use Rattle.speed_bin.specs.declared.header.Header.{Header}
 use Rattle.ddr_io.specs.Sink.{AppendsPrefix}
 use Rattle.ddr_text.specs.Spelling.{spelled}
 use Rattle.ddr_text.specs.declared.lines.TraceLine.{TraceLine}
 use Rattle.ddr_text.specs.declared.lines.TraceLine.TheVariants.{Flip, Idle}
-use Rattle.requests.specs.Queue.{shape_of, waiting}
+use Rattle.requests.specs.Queue.{waiting}
 use Rattle.requests.specs.declared.request.Request.{Request as Asked}
 use Rattle.reports.specs.Requests.{Request, request_of, requests}
 use Rattle.reports.specs.Runs.{Run, Flips, log_of, is_served, ready, held}
@@ -20,7 +20,8 @@ use Rattle.trace_replay.proofs.Pieces.{prefix-behind}
 use Rattle.trace_replay.proofs.Taken.{NoneHeld, get-last, InsideMore, StepsLonger, Laws-longer, ReportLonger, Parts, requests-more_of, kept-longer}
 use Rattle.reports.specs.Barriers.{idle_clocks}
 use Rattle.reports.specs.Delivered.{AreInside, device_steps}
-use Rattle.reports.specs.Report.{report, latest, last_clock}
+use Rattle.reports.specs.Report.{report, latest}
+use Rattle.speed_bin.specs.Log.{last_clock}
 use Rattle.device_core.specs.Standing.{IsBit}
 use Rattle.device_core.specs.Steps.{Flips as Turned}
 use Rattle.command_words.specs.Place.{place_of}

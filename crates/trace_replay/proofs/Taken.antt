@@ -10,7 +10,8 @@ use Rattle.device_core.specs.Stored.{changes_of, reading}
 use Rattle.ddr_text.specs.Spelling.{spelled}
 use Rattle.ddr_text.specs.declared.lines.TraceLine.{TraceLine}
 use Rattle.ddr_text.specs.declared.lines.TraceLine.TheVariants.{Read, Write, Flip, Idle}
-use Rattle.requests.specs.Queue.{Step as NumberedStep, shape_of, waiting, span, IsFull, AreKnown, is_served as is_served_number}
+use Rattle.requests.specs.Queue.{Step as NumberedStep, waiting, span, IsFull, AreKnown, is_served as is_served_number}
+use Rattle.speed_bin.specs.Header.{shape_of}
 use Rattle.requests.specs.declared.waiting.Waiting.{Waiting}
 use Rattle.requests.specs.declared.request.Request.{Request as Asked}
 use Rattle.requests.specs.declared.request.Kind.TheVariants.{Read as Reads, Write as Writes}

@@ -7,7 +7,8 @@ use Rattle.speed_bin.specs.declared.header.Header.{Header}
 use Rattle.ddr_io.specs.Line.{HasNoFeed, next_bytes}
 use Rattle.ddr_text.specs.Opening.{is_feed, parts_of}
 use Rattle.ddr_text.specs.declared.lines.TraceLine.{TraceLine}
-use Rattle.requests.specs.Queue.{shape_of, waiting}
+use Rattle.requests.specs.Queue.{waiting}
+use Rattle.speed_bin.specs.Header.{shape_of}
 use Rattle.requests.specs.declared.request.Request.{Request as Asked}
 use Rattle.reports.specs.Requests.{requests}
 use Rattle.reports.specs.Runs.{Run, unserved}

@@ -3,7 +3,7 @@ use Rattle.std.specs.Prelude.{ℕ, ◌≡◌, ◌<◌, ◌≤◌, ◌^◌, Bool,
 use Rattle.command_words.specs.declared.command.Command.{Command}
 use Rattle.command_words.specs.declared.geometry.Place.{Place}
 use Rattle.speed_bin.specs.Alert.{alert}
-use Rattle.speed_bin.specs.Kinds.{is_wr}
+use Rattle.command_words.specs.Kinds.{is_wr}
 use Rattle.speed_bin.specs.Log.{Issued, Log}
 use Rattle.speed_bin.specs.Marks.{is_in_range}
 use Rattle.speed_bin.specs.Rules.{all_closed, broken, broken_at_end}

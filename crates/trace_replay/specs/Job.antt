@@ -10,9 +10,8 @@ use Rattle.ddr_text.specs.declared.lines.LineFault.{LineFault}
 use Rattle.ddr_text.specs.declared.lines.LineFault.TheVariants.{Empty, Letter, Fields, Number, Range, Hex, Word}
 use Rattle.ddr_text.specs.declared.lines.TraceLine.{TraceLine}
 use Rattle.ddr_text.specs.declared.lines.TraceLine.TheVariants.{Read, Write, Flip, Idle}
-use Rattle.speed_bin.specs.Header.{IsAccepted}
+use Rattle.speed_bin.specs.Header.{IsAccepted, shape_of}
 use Rattle.speed_bin.specs.declared.header.Header.{Header}
-use Rattle.requests.specs.Queue.{shape_of}
 use Rattle.reports.specs.Barriers.{idle_clocks}
 use Rattle.reports.specs.Delivered.{AreInside}
 

@@ -3,10 +3,10 @@ use Rattle.std.specs.Prelude.{ℕ, ⊤, ◌≡◌, ◌≢◌, ◌+◌, ◌-◌, 
 use Rattle.std.specs.List.{flat_map}
 use Rattle.std.specs.Io.KnownBytes.{Appends}
 use Rattle.command_words.specs.declared.command.Command.{Command}
-use Rattle.speed_bin.specs.Header.{IsAccepted}
+use Rattle.speed_bin.specs.Header.{IsAccepted, shape_of}
 use Rattle.speed_bin.specs.declared.header.Header.{Header}
 use Rattle.error_scrub.specs.declared.cells.LineRead.{LineRead}
-use Rattle.requests.specs.Queue.{shape_of, waiting}
+use Rattle.requests.specs.Queue.{waiting}
 use Rattle.requests.specs.declared.request.Kind.{Kind}
 use Rattle.requests.specs.declared.request.Kind.TheVariants.{Read as Reads, Write as Writes}
 use Rattle.requests.specs.declared.request.RequestId.{RequestId}
@@ -24,7 +24,8 @@ use Rattle.reports.specs.Runs.{Run, Step as RunStep, log_of, is_served, unserved
 use Rattle.reports.specs.Delivered.{bytes_for, device_steps}
 use Rattle.reports.specs.Offered.{asked, offered, controller_steps}
 use Rattle.reports.specs.Readings.{reading_of}
-use Rattle.reports.specs.Report.{last_clock, report}
+use Rattle.reports.specs.Report.{report}
+use Rattle.speed_bin.specs.Log.{last_clock}
 use Rattle.reports.specs.Sound.{Sound, IsRun}
 use Rattle.reports.specs.Underway.{Ahead as Following, Unknown as UnknownLine, Next, Ended, IsUnderway, IsOffered, IsIssued}
 use Rattle.trace_replay.specs.Coupled.{Step, StandsFor, pending_of, from_of, until_of, finished_of, issued_as, controller_steps as numbered_steps, device_steps as stored_steps}

@@ -8,7 +8,7 @@ use Rattle.ddr_io.specs.Faults.{Rose}
 use Rattle.ddr_io.specs.Sink.{AppendsPrefix}
 use Rattle.ddr_io.specs.declared.status.Status.{Status}
 use Rattle.ddr_io.specs.declared.status.Status.TheVariants as status
-use Rattle.requests.specs.Queue.{shape_of}
+use Rattle.speed_bin.specs.Header.{shape_of}
 use Rattle.ddr_text.specs.Spelling.{spelled}
 use Rattle.ddr_text.specs.declared.lines.TraceLine.{TraceLine}
 use Rattle.ddr_text.specs.declared.lines.ReportLine.TheVariants.{End as EndLine, Refused as RefusedLine}

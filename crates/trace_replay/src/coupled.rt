@@ -3,10 +3,10 @@ ghost use Rattle.std.specs.Prelude.{ℕ, ◌≡◌, ◌+◌, ◌<◌, ◌≤◌,
 ghost use Rattle.command_words.specs.Geometry.{lines_of};
 ghost use Rattle.speed_bin.specs.Alert.{alert as alert_after};
 ghost use Rattle.speed_bin.specs.Counts.{peak as peak_after};
-ghost use Rattle.speed_bin.specs.Header.{IsAccepted, bound};
-ghost use Rattle.speed_bin.specs.Kinds.{is_wr};
+ghost use Rattle.speed_bin.specs.Header.{IsAccepted, bound, shape_of};
+ghost use Rattle.command_words.specs.Kinds.{is_wr};
 ghost use Rattle.speed_bin.specs.declared.header.Header.{Header as AnyHeader};
-ghost use Rattle.requests.specs.Queue.{Step as NumberedStep, places, waiting, shape_of, IsFull};
+ghost use Rattle.requests.specs.Queue.{Step as NumberedStep, places, waiting, IsFull};
 ghost use Rattle.requests.specs.declared.request.Request.{Request as AnyRequest};
 ghost use Rattle.scheduler.specs.Controller.{StandsFor as ControllerFor};
 ghost use Rattle.device_core.specs.Standing.{StandsFor as DeviceFor, IsBit, lent};

@@ -1,7 +1,7 @@
 //! Worked rows, driven by hand through both ends.
 ghost use Rattle.std.specs.Prelude.{◌≡◌, ◌<◌, None, false, is_some, OnSome};
 ghost use Rattle.speed_bin.specs.Header.{IsAccepted};
-ghost use Rattle.speed_bin.specs.Kinds.{is_wr};
+ghost use Rattle.command_words.specs.Kinds.{is_wr};
 ghost use Rattle.device_core.specs.Standing.{lent};
 ghost use Rattle.trace_replay.specs.Coupled.{finished_of, pending_of};
 ghost use Rattle.trace_replay.specs.Driving.{IsDriven};

@@ -1,13 +1,12 @@
 //! From the bytes of a job to the bytes of its report.
 ghost use Rattle.std.specs.Prelude.{ℕ, ◌≡◌, ◌≢◌, ◌≤◌, List, Option, Some, None, [], IfOk, OnOk, IfErr};
-ghost use Rattle.speed_bin.specs.Header.{IsAccepted};
+ghost use Rattle.speed_bin.specs.Header.{IsAccepted, shape_of};
 ghost use Rattle.speed_bin.specs.declared.header.Header.{Header as AnyHeader};
 ghost use Rattle.ddr_io.specs.Faults.{Rose};
 ghost use Rattle.ddr_io.specs.Line.{next_bytes};
 ghost use Rattle.ddr_io.specs.declared.line_reader.Line.{Line as AnyEnd};
 ghost use Rattle.ddr_io.specs.declared.line_reader.Line.TheVariants.{Text as AfterText};
 ghost use Rattle.ddr_text.specs.declared.lines.TraceLine.{TraceLine};
-ghost use Rattle.requests.specs.Queue.{shape_of};
 ghost use Rattle.reports.specs.Runs.{Run};
 ghost use Rattle.trace_replay.specs.Job.{IsJobOf};
 ghost use Rattle.trace_replay.specs.Reading.{Continues, IsRead};

@@ -1,6 +1,6 @@
 use Rattle.std.proofs.Common.{◌∙◌, ap}
 use Rattle.std.specs.Prelude.{option_map}
-use Rattle.requests.specs.Queue.{shape_of}
+use Rattle.speed_bin.specs.Header.{shape_of}
 use Rattle.reports.specs.Accesses.{access_of}
 use Rattle.reports.specs.Runs.{log_of}
 use Rattle.reports.proofs.Columns.{none-column, some-column}

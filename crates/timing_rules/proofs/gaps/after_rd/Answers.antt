@@ -1,5 +1,5 @@
 use Rattle.std.proofs.Common.{◌∙◌, ◌+◌, ◌-◌, ◌&&◌}
-use Rattle.speed_bin.specs.Kinds.{is_rd, is_wr, is_precharge}
+use Rattle.command_words.specs.Kinds.{is_rd, is_wr, is_precharge}
 use Rattle.timing_rules.proofs.Table.{rd_gap, chain_4, entry}
 use Rattle.timing_rules.proofs.gaps.after_rd.Goals as goal
 

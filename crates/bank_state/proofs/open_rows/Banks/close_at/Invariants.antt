@@ -1,6 +1,6 @@
 use Rattle.std.proofs.Common.{◌≡◌, ℕ, ◌*◌, ◌<◌, ◌≤◌, length}
 use Rattle.command_words.specs.declared.command.Command.TheVariants.{PreSb}
-use Rattle.speed_bin.specs.Kinds.{effect}
+use Rattle.command_words.specs.Kinds.{effect}
 use Rattle.speed_bin.specs.Log.{open_after}
 use Rattle.bank_state.specs.Rows.{row_of}
 use Rattle.bank_state.proofs.open_rows.Banks.close_at.Given as goal

@@ -1,6 +1,6 @@
 use Rattle.std.proofs.Common.{sym, arith}
 use Rattle.speed_bin.specs.Alert.{closes}
-use Rattle.speed_bin.specs.Kinds.{effect}
+use Rattle.command_words.specs.Kinds.{effect}
 use Rattle.speed_bin.specs.Log.{open_at}
 use Rattle.speed_bin.proofs.Tests.{any_below_at}
 use Rattle.device_core.proofs.Below.{none_below}

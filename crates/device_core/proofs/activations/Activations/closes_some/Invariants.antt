@@ -1,6 +1,6 @@
 use Rattle.std.proofs.Common.{◌≡◌, ◌<◌, ℕ, false}
 use Rattle.speed_bin.specs.Alert.{closes}
-use Rattle.speed_bin.specs.Kinds.{effect}
+use Rattle.command_words.specs.Kinds.{effect}
 use Rattle.speed_bin.specs.Log.{Log, open_at}
 use Rattle.speed_bin.specs.declared.header.Header.{Header}
 use Rattle.device_core.specs.Rows.{StandsFor}

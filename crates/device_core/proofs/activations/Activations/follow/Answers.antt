@@ -1,6 +1,6 @@
 use Rattle.std.proofs.Common.{◌∙◌, ◌∷◌, ◌<◌, ℕ, length, length-set, refl, sym, ap, subst, arith}
 use Rattle.command_words.specs.Command.{bank_number}
-use Rattle.speed_bin.specs.Kinds.{effect}
+use Rattle.command_words.specs.Kinds.{effect}
 use Rattle.device_core.specs.Rows.{StandsFor, MayTouch, BankFor, touch_of}
 use Rattle.device_core.specs.declared.bank_rows.BankRows.{BankRows}
 use Rattle.device_core.proofs.RowLemmas.{all_banks, may_touch, opened_at}

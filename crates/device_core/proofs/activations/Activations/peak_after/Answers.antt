@@ -1,5 +1,5 @@
 use Rattle.std.proofs.Common.{◌≡◌, ◌+◌, false, max, arith, rules}
-use Rattle.speed_bin.specs.Kinds.{is_act}
+use Rattle.command_words.specs.Kinds.{is_act}
 use Rattle.device_core.proofs.RowLemmas.{act_bank, act_row, act_fits, peak_at_act, peak_else}
 use Rattle.device_core.proofs.activations.Activations.peak_after.Goals as goal
 

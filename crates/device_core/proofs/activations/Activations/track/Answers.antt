@@ -1,5 +1,5 @@
 use Rattle.std.proofs.Common.{sym}
-use Rattle.speed_bin.specs.Kinds.{is_mrw}
+use Rattle.command_words.specs.Kinds.{is_mrw}
 use Rattle.device_core.specs.Rows.{StandsFor, bank_at}
 use Rattle.device_core.proofs.RowLemmas.{all_banks}
 use Rattle.device_core.proofs.BankLemmas.{later_spared, others_spare, no_rfm_all, must_be, mrw_alone}

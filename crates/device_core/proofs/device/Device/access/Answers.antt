@@ -1,5 +1,6 @@
 use Rattle.device_core.specs.Standing.{StandsFor, lent}
-use Rattle.device_core.specs.Stored.{shape, changes_of, visits}
+use Rattle.device_core.specs.Stored.{changes_of, visits}
+use Rattle.speed_bin.specs.Header.{shape_of}
 use Rattle.device_core.proofs.StepLemmas.{bank_of_rd, bank_of_wr, some_list, scrub_shape, few_steps, store_at_scrub}
 use Rattle.device_core.proofs.device.Device.access.Goals as goal
 
@@ -24,4 +25,4 @@ scrub-requires-clause-steps c = few_steps c.args.self.now c.args.clock c.args.co
 pub returns-in-Ecs-clause-store : goal.returns-in-Ecs-clause-store
 unfolding StandsFor
 returns-in-Ecs-clause-store c = λ h steps s given.
-    store_at_scrub c.scrub.new.self h c.args.clock c.args.command.now (lent c.args.bytes) steps c.in-Ecs.is (c.scrub.ensures (shape h) (changes_of h steps) (visits h steps) s.store)
+    store_at_scrub c.scrub.new.self h c.args.clock c.args.command.now (lent c.args.bytes) steps c.in-Ecs.is (c.scrub.ensures (shape_of h) (changes_of h steps) (visits h steps) s.store)

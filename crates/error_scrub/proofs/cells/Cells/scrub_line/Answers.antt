@@ -2,12 +2,12 @@ use Rattle.std.proofs.Common.{ℕ, List, ◌∙◌, BTreeMap, ap, refl}
 use Rattle.std.specs.Ordering.{nat_cmp}
 use Rattle.std.specs.BTreeMap.{get}
 use Rattle.ondie_ecc.specs.declared.codeword.Codeword.{Codeword}
-use Rattle.error_scrub.specs.Cells.{shape_of, stored, word_in}
+use Rattle.error_scrub.specs.Cells.{cells_shape, stored, word_in}
 use Rattle.error_scrub.proofs.ZeroWords.{scrubbed-zero, zero-not_fixed, zero-not_lost, zero_at}
 use Rattle.error_scrub.proofs.cells.Cells.scrub_line.Goals as goal
 
 pub returns-in-None-clause-line : goal.returns-in-None-clause-line
-unfolding stored shape_of
+unfolding stored cells_shape
 returns-in-None-clause-line c =
     let same = c.get_mut.follows.holds-at-none in
     let none = c.in-None.ensures.value in

@@ -1,7 +1,7 @@
 use Rattle.std.proofs.Common.{◌≡◌, ◌∙◌, ℕ, ◌+◌, ◌∷◌, refl, sym, ap, arith, length-set}
 use Rattle.speed_bin.specs.Alert.{closes}
 use Rattle.speed_bin.specs.Below.{any_below}
-use Rattle.speed_bin.specs.Kinds.{effect}
+use Rattle.command_words.specs.Kinds.{effect}
 use Rattle.speed_bin.specs.Log.{open_at}
 use Rattle.log_auditor.specs.Activations.{closes_row, touch_of}
 use Rattle.log_auditor.proofs.Banks.{bank_kept, done_next, left_next, some_next, closed_then, closed_else}

@@ -3,7 +3,7 @@ use Rattle.bank_state.specs.Standing.{StandsFor as BanksStandFor}
 use Rattle.speed_bin.specs.declared.header.Header.{Header}
 use Rattle.speed_bin.specs.Alert.{closes}
 use Rattle.speed_bin.specs.Below.{any_below}
-use Rattle.speed_bin.specs.Kinds.{effect}
+use Rattle.command_words.specs.Kinds.{effect}
 use Rattle.speed_bin.specs.Log.{Log, open_at}
 use Rattle.log_auditor.specs.Activations.{BankKeeps, MayCount, activity_at}
 use Rattle.log_auditor.proofs.activations.Activations.count.Given as goal

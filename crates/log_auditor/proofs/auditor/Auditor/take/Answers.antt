@@ -1,6 +1,7 @@
 use Rattle.std.proofs.Common.{◌∙◌, ◌∷◌, sym, ap, subst}
 use Rattle.ddr_text.specs.AcceptedReport.{IsReportLine}
-use Rattle.log_auditor.specs.Auditing.{Keeps, StandsFor, shape_of, told_state}
+use Rattle.log_auditor.specs.Auditing.{Keeps, StandsFor, told_state}
+use Rattle.speed_bin.specs.Header.{shape_of}
 use Rattle.log_auditor.specs.declared.auditor.Auditor.{Auditor}
 use Rattle.log_auditor.proofs.Taking.{fine_log, is_other, taken_end, taken_issued, taken_other}
 use Rattle.log_auditor.proofs.auditor.Auditor.take.Goals as goal

@@ -1,5 +1,5 @@
 use Rattle.std.proofs.Common.{◌∙◌, sym, length, suc}
-use Rattle.speed_bin.specs.Kinds.{effect}
+use Rattle.command_words.specs.Kinds.{effect}
 use Rattle.log_auditor.proofs.Counting.{counted_below, row_inside, unchanged, closed_nothing, is_closing, is_managing, kept_counts}
 use Rattle.log_auditor.proofs.bank_activity.BankActivity.issue.Goals as goal
 

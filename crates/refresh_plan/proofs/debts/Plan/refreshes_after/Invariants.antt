@@ -1,5 +1,5 @@
 use Rattle.std.proofs.Common.{◌≡◌, ℕ, ◌+◌, ◌<◌, ◌≤◌, cond, length, slice_index}
-use Rattle.speed_bin.specs.Kinds.{refreshes}
+use Rattle.command_words.specs.Kinds.{refreshes}
 use Rattle.refresh_plan.proofs.debts.Plan.refreshes_after.Given as goal
 
 abbrev pub invariant-loop-address : goal.invariant-loop-address

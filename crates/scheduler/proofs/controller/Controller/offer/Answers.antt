@@ -1,7 +1,8 @@
 use Rattle.std.proofs.Common.{◌≡◌, ◌∙◌, ◌+◌, ◌<◌, ap, sym, subst, refl}
 use Rattle.command_words.specs.Geometry.{Shape, lines_of}
 use Rattle.speed_bin.specs.declared.header.Header.{Header}
-use Rattle.requests.specs.Queue.{shape_of, waiting_as}
+use Rattle.requests.specs.Queue.{waiting_as}
+use Rattle.speed_bin.specs.Header.{shape_of}
 use Rattle.scheduler.specs.Controller.{StandsFor, finished_of}
 use Rattle.scheduler.proofs.Offered.{offered_more}
 use Rattle.scheduler.proofs.controller.Controller.offer.Goals as goal

@@ -1,6 +1,6 @@
 use Rattle.std.proofs.Common.{◌≡◌, ◌∙◌, ◌&&◌, ℕ, ◌+◌, List, Option, ◌∷◌, ap, sym, subst, arith}
 use Rattle.command_words.specs.Command.{covers}
-use Rattle.speed_bin.specs.Kinds.{effect}
+use Rattle.command_words.specs.Kinds.{effect}
 use Rattle.speed_bin.specs.Log.{Log}
 use Rattle.timing_rules.specs.Gate.{StandsFor as GateStandsFor}
 use Rattle.timing_rules.specs.declared.gate.Gate.{Gate}

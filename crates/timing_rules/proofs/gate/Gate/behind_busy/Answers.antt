@@ -1,7 +1,7 @@
 use Rattle.std.proofs.Common.{not, ◌&&◌, [], ◌∷◌, ap}
 use Rattle.command_words.specs.declared.command.Command.{Command}
 use Rattle.speed_bin.specs.Gap.{meet}
-use Rattle.speed_bin.specs.Kinds.{is_ref_all, is_ref_same, is_rfm_all, is_rfm_same, is_mrw, is_scrub, is_nop}
+use Rattle.command_words.specs.Kinds.{is_ref_all, is_ref_same, is_rfm_all, is_rfm_same, is_mrw, is_scrub, is_nop}
 use Rattle.timing_rules.specs.Kept.{touches}
 use Rattle.timing_rules.specs.Rows.{Row}
 use Rattle.timing_rules.proofs.Last.{Stands, row_kinds, row_there, first_row, next_row}

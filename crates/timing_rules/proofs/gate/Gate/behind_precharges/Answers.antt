@@ -1,7 +1,7 @@
 use Rattle.std.proofs.Common.{◌&&◌, ◌||◌, [], ◌∷◌}
 use Rattle.command_words.specs.declared.command.Command.{Command}
 use Rattle.speed_bin.specs.Gap.{meet}
-use Rattle.speed_bin.specs.Kinds.{is_act, needs_closed}
+use Rattle.command_words.specs.Kinds.{is_act, needs_closed}
 use Rattle.timing_rules.specs.Kept.{touches, closes_one, closes_address, closes_all}
 use Rattle.timing_rules.specs.Rows.{Row}
 use Rattle.timing_rules.proofs.Last.{Stands, row_there, first_row, next_row}

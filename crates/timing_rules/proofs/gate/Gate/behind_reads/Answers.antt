@@ -1,7 +1,7 @@
 use Rattle.std.proofs.Common.{ℕ, subst, ◌+◌, ◌-◌, ◌&&◌, ◌==◌, [], ◌∷◌, sym, ap}
 use Rattle.command_words.specs.declared.command.Command.{Command}
 use Rattle.speed_bin.specs.Gap.{meet}
-use Rattle.speed_bin.specs.Kinds.{is_rd, is_wr, is_precharge, group_of}
+use Rattle.command_words.specs.Kinds.{is_rd, is_wr, is_precharge, group_of}
 use Rattle.timing_rules.specs.Kept.{touches}
 use Rattle.timing_rules.specs.Rows.{Row}
 use Rattle.timing_rules.proofs.Last.{IsRow, Stands, row_kinds, row_there, first_row, next_row}

@@ -1,5 +1,5 @@
 use Rattle.std.proofs.Common.{refl}
-use Rattle.speed_bin.specs.Kinds.{is_act, is_rd, is_wr, is_ref_same, is_rfm_same}
+use Rattle.command_words.specs.Kinds.{is_act, is_rd, is_wr, is_ref_same, is_rfm_same}
 use Rattle.timing_rules.specs.Kept.{closes_one, closes_address}
 use Rattle.timing_rules.proofs.gate.Gate.empty.Goals as goal
 

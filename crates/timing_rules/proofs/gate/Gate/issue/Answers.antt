@@ -1,7 +1,7 @@
 use Rattle.std.proofs.Common.{◌∙◌, refl, subst}
 use Rattle.command_words.specs.declared.command.Command.{Command}
 use Rattle.command_words.specs.declared.command.Command.TheVariants.{Act, Rd, Wr, PrePb, PreSb, RefSb, RfmSb}
-use Rattle.speed_bin.specs.Kinds.{is_act, is_rd, is_wr, is_ref_same, is_rfm_same}
+use Rattle.command_words.specs.Kinds.{is_act, is_rd, is_wr, is_ref_same, is_rfm_same}
 use Rattle.speed_bin.specs.Rules.{MayFollow}
 use Rattle.timing_rules.specs.Gate.{StandsFor, act_clocks}
 use Rattle.timing_rules.specs.Kept.{closes_one, closes_address}

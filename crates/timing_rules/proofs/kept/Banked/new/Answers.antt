@@ -1,5 +1,5 @@
 use Rattle.std.proofs.Common.{◌&&◌, ◌==◌, refl}
-use Rattle.speed_bin.specs.Kinds.{group_of}
+use Rattle.command_words.specs.Kinds.{group_of}
 use Rattle.timing_rules.specs.Kept.{touches}
 use Rattle.timing_rules.specs.declared.scope.Scope.TheVariants.{Bank, Address}
 use Rattle.timing_rules.proofs.Noted.{none_each}

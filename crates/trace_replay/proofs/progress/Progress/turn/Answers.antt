@@ -1,5 +1,5 @@
 use Rattle.std.proofs.Common.{◌∙◌, arith}
-use Rattle.requests.specs.Queue.{shape_of}
+use Rattle.speed_bin.specs.Header.{shape_of}
 use Rattle.scheduler.specs.Controller.{number_of}
 use Rattle.trace_replay.proofs.Pieces.{if_err}
 use Rattle.trace_replay.proofs.Fronts.{front-of}
