@@ -109,6 +109,7 @@ impl LineReader {
         ensures later { S.faults source.old ≤ S.faults source.new }
         ensures failed { self.old.last ≡ Line.Text → result ≡ Line.Failed →
             Rose (S.faults source.old) (S.faults source.new) }
+        ensures kept { result ≢ Line.Failed → S.faults source.new ≡ S.faults source.old }
     {
         if self.last != Line::Text {
             return self.stop(self.last);
@@ -188,6 +189,7 @@ impl LineReader {
         ensures bytes { Fills self.old self.new (S.left source.old) (S.left source.new) result }
         ensures later { S.faults source.old ≤ S.faults source.new }
         ensures failed { result ≡ Got.Failed → Rose (S.faults source.old) (S.faults source.new) }
+        ensures kept { result ≢ Got.Failed → S.faults source.new ≡ S.faults source.old }
     {
         self.line_start = 0;
         self.line_end = 0;

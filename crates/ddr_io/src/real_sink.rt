@@ -47,6 +47,7 @@ impl<W: Write> Sink for RealSink<W> {
         ensures later { write_faults self.old ≤ write_faults self.new }
         ensures failed { result ≡ Put.Failed →
             Rose (write_faults self.old) (write_faults self.new) }
+        ensures kept { result ≢ Put.Failed → write_faults self.new ≡ write_faults self.old }
     {
         match self.writer.write(piece) {
             Ok(0) | Err(_) => {

@@ -1,5 +1,5 @@
 //! A source over a reader of the system: the trusted edge.
-ghost use Rattle.std.specs.Prelude.{◌≡◌, ◌<◌, ◌≤◌, length};
+ghost use Rattle.std.specs.Prelude.{◌≡◌, ◌≢◌, ◌<◌, ◌≤◌, length};
 ghost use Rattle.ddr_io.specs.Faults.{Rose};
 ghost use Rattle.ddr_io.specs.Source.{GivesAtMost, Gives, CountsRead};
 
@@ -45,6 +45,7 @@ impl<R: Read> Source for RealSource<R> {
         ensures later { read_faults self.old ≤ read_faults self.new }
         ensures failed { result ≡ Got.Failed →
             Rose (read_faults self.old) (read_faults self.new) }
+        ensures kept { result ≢ Got.Failed → read_faults self.new ≡ read_faults self.old }
     {
         match self.reader.read(buf) {
             Ok(0) => Got::End,

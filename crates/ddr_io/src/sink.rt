@@ -1,5 +1,5 @@
 //! Where bytes go.
-ghost use Rattle.std.specs.Prelude.{ℕ, ◌≡◌, ◌<◌, ◌≤◌, List, Option, length};
+ghost use Rattle.std.specs.Prelude.{ℕ, ◌≡◌, ◌≢◌, ◌<◌, ◌≤◌, List, Option, length};
 ghost use Rattle.ddr_io.specs.Faults.{Rose};
 ghost use Rattle.ddr_io.specs.Sink.{TakesAtMost, Takes, TakesWhole};
 
@@ -28,7 +28,8 @@ pub trait Sink {
         ensures bound { TakesAtMost result piece.now }
         ensures bytes { Takes (written self.old) (written self.new) result piece.now }
         ensures later { faults self.old ≤ faults self.new }
-        ensures failed { result ≡ Put.Failed → Rose (faults self.old) (faults self.new) };
+        ensures failed { result ≡ Put.Failed → Rose (faults self.old) (faults self.new) }
+        ensures kept { result ≢ Put.Failed → faults self.new ≡ faults self.old };
 }
 
 /// Writes the whole piece, by as many writes as that takes. After any answer but `Took`, some
@@ -38,6 +39,7 @@ pub fn put_all<K: Sink>(sink: &mut K, piece: &[u8]) -> Put
     ensures bytes { TakesWhole (K.written sink.old) (K.written sink.new) result piece.now }
     ensures later { K.faults sink.old ≤ K.faults sink.new }
     ensures failed { result ≡ Put.Failed → Rose (K.faults sink.old) (K.faults sink.new) }
+    ensures kept { result ≢ Put.Failed → K.faults sink.new ≡ K.faults sink.old }
 {
     let mut rest = piece;
     while !rest.is_empty() {

@@ -1,5 +1,5 @@
 //! Where bytes come from.
-ghost use Rattle.std.specs.Prelude.{ℕ, ◌≡◌, ◌<◌, ◌≤◌, List, Option, length};
+ghost use Rattle.std.specs.Prelude.{ℕ, ◌≡◌, ◌≢◌, ◌<◌, ◌≤◌, List, Option, length};
 ghost use Rattle.ddr_io.specs.Faults.{Rose};
 ghost use Rattle.ddr_io.specs.Source.{GivesAtMost, Gives};
 
@@ -28,5 +28,6 @@ pub trait Source {
         ensures bound { GivesAtMost result buf.new }
         ensures bytes { Gives (left self.old) (left self.new) result buf.new }
         ensures later { faults self.old ≤ faults self.new }
-        ensures failed { result ≡ Got.Failed → Rose (faults self.old) (faults self.new) };
+        ensures failed { result ≡ Got.Failed → Rose (faults self.old) (faults self.new) }
+        ensures kept { result ≢ Got.Failed → faults self.new ≡ faults self.old };
 }

@@ -34,4 +34,5 @@ returns-in_default g c =
       bytes = Fills-unread _ _ _ _ c.read-got.result c.read-got.new.buf c.in_default.not-Bytes refl last (kept ∙ room.ensures.moved ∙ held) c.read-got.ensures.bytes;
       later = c.read-got.ensures.later;
       failed = c.read-got.ensures.failed;
+      kept = c.read-got.ensures.kept;
     }

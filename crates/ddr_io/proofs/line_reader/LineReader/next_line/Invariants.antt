@@ -10,7 +10,7 @@ invariant-loop-at g l = record {
   going_on : l.initial.self.last ≡ Text;
   kept : Keeps (next_bytes l.initial.self.held (g.S.Source.left l.initial.source)) (next_bytes l.self.held (g.S.Source.left l.source));
   unread : HasFeed l.initial.self.held → (l.self.held ≡ l.initial.self.held) × (l.source ≡ l.initial.source);
-  later : g.S.Source.faults l.initial.source ≤ g.S.Source.faults l.source;
+  counted : g.S.Source.faults l.source ≡ g.S.Source.faults l.initial.source;
   within : l.clean ≤ length l.self.held;
   short : l.clean < MAX_LINE;
   searched : HasNoFeed (take l.clean l.self.held);
