@@ -9,11 +9,10 @@ ghost use Rattle.speed_bin.specs.Header.{IsAccepted, spare, bound as bound_of};
 ghost use Rattle.speed_bin.specs.Marks.{Keeps, is_mark, acts_since_mark};
 ghost use Rattle.speed_bin.specs.Weights.{weights_of, steps_of};
 
-/// After a mark of a bank and before the next one, at most so many ACTs of that bank stand as a back-off cycle has: one,
-/// and those that it has beyond the first.
+/// After a mark of a bank and before the next one, at most as many ACTs of that bank stand as a back-off cycle has.
 pub fn cycle_activations()
     ensures at_most { (h : Header) (b : ℕ) (log : Log) → IsAccepted h → b < 32 → Keeps h log
-        → acts_since_mark h b log ≤ suc (spare h) }
+        → acts_since_mark h b log ≤ h.version.cycle }
 {}
 
 /// At every mark of a bank the weights of its rows add up to no more than if each row were at ATH - 1.
@@ -22,7 +21,8 @@ pub fn weights_at_marks()
         → weights_of h b log ≤ suc (spare h) * h.settings.rows * spare h ^ steps_of h }
 {}
 
-/// No row of any bank has more activations since its last mitigation than the bound, which is `ATH + h + A - 1` for a cycle of A activations.
+/// No row of any bank has more activations since its last mitigation than the bound, which is `ATH + h + A - 1` for a
+/// cycle of A activations.
 pub fn bound()
     ensures bounded { (h : Header) (b row : ℕ) (log : Log) → IsAccepted h → b < 32 → row < h.settings.rows → Keeps h log
         → acts h b row log ≤ bound_of h }

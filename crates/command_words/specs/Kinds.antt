@@ -1,6 +1,7 @@
 -- Kinds of commands, and what a command does to one bank.
-use Rattle.std.specs.Prelude.{ℕ, Bool, true, false, ◌==◌, if◌then◌else◌}
+use Rattle.std.specs.Prelude.{ℕ, Bool, true, false, ◌==◌, if◌then◌else◌, Option, Some, None}
 use Rattle.command_words.specs.Command.{bank_number, is_at}
+use Rattle.command_words.specs.declared.place.Bank.{Bank}
 use Rattle.command_words.specs.declared.command.Command.{Command}
 use Rattle.command_words.specs.declared.command.Command.TheVariants.{Act, Rd, Wr, PrePb, PreSb, PreAb, RefAb, RefSb, RfmAb, RfmSb, Mrw, Ecs, Nop}
 
@@ -87,6 +88,14 @@ abbrev pub refreshes : ℕ → Command → Bool
 refreshes address RefAb = true
 refreshes address (RefSb own) = own == address
 refreshes address _ = false
+
+-- the bank of a command that names one
+abbrev pub bank_of : Command → Option Bank
+bank_of (Act bank row) = Some bank
+bank_of (Rd bank column) = Some bank
+bank_of (Wr bank column) = Some bank
+bank_of (PrePb bank) = Some bank
+bank_of _ = None
 
 -- the group of a command that names one bank
 abbrev pub group_of : Command → ℕ

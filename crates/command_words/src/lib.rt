@@ -4,6 +4,7 @@
 mod command;
 mod decoding;
 mod geometry;
+mod kinds;
 mod place;
 #[cfg(test)]
 mod tests;

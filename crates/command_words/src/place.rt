@@ -211,6 +211,17 @@ pub struct Bank {
 impl Bank {
     ghost use Rattle.command_words.specs.Command.{bank_number};
 
+    /// The bank with this number, below 32.
+    pub fn numbered(number: u8) -> Self
+        requires { number < 32 }
+        ensures { bank_number result ≡ number }
+    {
+        Bank {
+            group: Group::of(u32::from(number / 4)),
+            address: BankAddr::of(u32::from(number % 4)),
+        }
+    }
+
     /// The bank's number, `group * 4 + address`.
     pub fn number(self) -> u8
         ensures number { result ≡ bank_number self }

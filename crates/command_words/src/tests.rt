@@ -64,12 +64,34 @@ fn a_line_has_its_place(rt: HostRuntime) -> Result<(), Fail> {
 }
 
 #[test]
+fn a_line_has_its_place_in_four_groups(rt: HostRuntime) -> Result<(), Fail> {
+    let shape = Geometry::new(65536, 4).ok_or("shape")?;
+    assert_eq!(rt; shape.lines(), 67_108_864);
+    let line = LineAddr::new(67_108_863, shape).ok_or("line")?;
+    let place = map_line(line, shape);
+    assert_eq!(rt; place.bank.group.get(), 3);
+    assert_eq!(rt; place.bank.address.get(), 3);
+    assert_eq!(rt; place.column.get(), 63);
+    assert_eq!(rt; place.row.get(), 65535);
+    let line = LineAddr::new(1024, shape).ok_or("line")?;
+    let place = map_line(line, shape);
+    assert_eq!(rt; place.bank.number(), 0);
+    assert_eq!(rt; place.column.get(), 0);
+    assert_eq!(rt; place.row.get(), 1);
+    assert_eq!(rt; unmap(place, shape).get(), 1024);
+    assert!(rt; LineAddr::new(67_108_864, shape).is_none());
+    Ok(())
+}
+
+#[test]
 fn numbers_outside_their_ranges_are_none(rt: HostRuntime) {
     assert!(rt; Group::new(8).is_none());
     assert!(rt; BankAddr::new(4).is_none());
     assert!(rt; Row::new(65536).is_none());
     assert!(rt; Column::new(64).is_none());
     assert!(rt; Geometry::new(65537, 8).is_none());
+    assert!(rt; Geometry::new(16, 6).is_none());
+    assert!(rt; Geometry::new(16, 0).is_none());
     assert!(rt; LineAddr::new(4096, Geometry::with_rows(2)).is_none());
 }
 
@@ -82,5 +104,21 @@ fn a_command_covers_its_banks(rt: HostRuntime) -> Result<(), Fail> {
     assert!(rt; covers(&refresh, bank(3, 1).ok_or("bank")?));
     assert!(rt; covers(&Command::Ecs, bank(3, 1).ok_or("bank")?));
     assert!(rt; !covers(&Command::Nop, bank(3, 1).ok_or("bank")?));
+    Ok(())
+}
+
+#[test]
+fn a_command_says_its_kind(rt: HostRuntime) -> Result<(), Fail> {
+    let read = Command::Rd(bank(2, 1).ok_or("bank")?, Column::new(5).ok_or("column")?);
+    assert!(rt; read.is_rd() && read.is_column() && !read.is_wr() && !read.is_act());
+    assert!(rt; read.bank() == bank(2, 1));
+    assert_eq!(rt; read.group(), 2);
+    let close = Command::PreSb(BankAddr::new(1).ok_or("address")?);
+    assert!(rt; close.is_precharge() && !close.needs_closed() && close.bank().is_none());
+    let manage = Command::RfmSb(BankAddr::new(1).ok_or("address")?);
+    assert!(rt; manage.is_rfm() && manage.is_rfm_same() && !manage.is_rfm_all());
+    assert!(rt; manage.needs_closed() && !manage.is_ref_same());
+    assert!(rt; Command::RefAb.is_ref_all() && Command::Ecs.is_scrub() && Command::Nop.is_nop());
+    assert!(rt; Bank::numbered(31).number() == 31);
     Ok(())
 }

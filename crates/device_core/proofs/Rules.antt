@@ -9,7 +9,7 @@ use Rattle.speed_bin.specs.Counters.{acts, counters}
 use Rattle.speed_bin.specs.Counts.{peak}
 use Rattle.speed_bin.specs.Header.{IsAccepted, bound}
 use Rattle.speed_bin.specs.Log.{Log, open_at}
-use Rattle.speed_bin.specs.Marks.{Keeps, BanksInRange, is_in_range}
+use Rattle.speed_bin.specs.Marks.{Keeps, BanksInRange, opens_inside}
 use Rattle.speed_bin.specs.Present.{banks_of, has_bank, HasBanks}
 use Rattle.speed_bin.proofs.Present.{absent_closed}
 use Rattle.speed_bin.proofs.Splits.{below_or_not}
@@ -56,24 +56,9 @@ banks_in_range h (place ∷ log) legal = (banks_in_range h log legal.0, λ bank 
 
 -- ---- The banks that there are
 
-has_bank_of : (h : Header) (command : Command) → is_in_range h command ≡ true → has_bank h.version.groups command ≡ true
-has_bank_of h (Act bank row) here = (both _ _ here).1
-has_bank_of h (Rd bank column) here = here
-has_bank_of h (Wr bank column) here = here
-has_bank_of h (PrePb bank) here = here
-has_bank_of h (PreSb address) here = refl
-has_bank_of h PreAb here = refl
-has_bank_of h RefAb here = refl
-has_bank_of h (RefSb address) here = refl
-has_bank_of h RfmAb here = refl
-has_bank_of h (RfmSb address) here = refl
-has_bank_of h (Mrw write) here = refl
-has_bank_of h Ecs here = refl
-has_bank_of h Nop here = refl
-
 has_banks : (h : Header) (log : Log) → AllLegal h log → HasBanks h.version.groups log
 has_banks h [] legal = tt
-has_banks h (place ∷ log) legal = (has_banks h log legal.0, has_bank_of h place.command legal.1.row)
+has_banks h (place ∷ log) legal = (has_banks h log legal.0, (both (opens_inside h place.command) (has_bank h.version.groups place.command) legal.1.row).1)
 
 -- a bank that is open is one of the header's groups
 pub open_group : (h : Header) (bank : Bank) (row : ℕ) (log : Log) → AllLegal h log → open_at (bank_number bank) log ≡ Some row → bank.group < h.version.groups

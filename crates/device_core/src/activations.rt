@@ -17,7 +17,7 @@ ghost use Rattle.device_core.specs.Legal.{IsLegal, AllLegal};
 use crate::bank_rows::{BankRows, Touch};
 use backoff::{Alert, laws};
 use bank_state::Banks;
-use command_words::{Bank, BankAddr, Command, Group, Row};
+use command_words::{Bank, Command, Row};
 use ddr_io::OutOfMemory;
 use row_counts::laws as counters;
 use speed_bin::{Header, Settings};
@@ -31,17 +31,6 @@ pub(crate) struct Activations {
     banks: Vec<BankRows>,
     alert: Alert,
     peak: u32,
-}
-
-// The bank with this number.
-fn bank_of(number: u8) -> Bank
-    requires { number < 32 }
-    ensures { bank_number result ≡ number }
-{
-    Bank {
-        group: Group::new(number / 4).unwrap(),
-        address: BankAddr::new(number % 4).unwrap(),
-    }
 }
 
 impl Activations {
@@ -136,7 +125,7 @@ impl Activations {
         ensures { (h : AnyHeader) (log : Log) → StandsFor self.now h log → result ≡ closes_some command.now log }
     {
         for number in 0..32 {
-            if self.closes(command, &bank_of(number)) {
+            if self.closes(command, &Bank::numbered(number)) {
                 return true;
             }
         }
@@ -189,7 +178,7 @@ impl Activations {
         counters::may_change();
         counters::holds_by_some_log();
         for number in 0..32 {
-            let bank = bank_of(number);
+            let bank = Bank::numbered(number);
             let touch = Touch::of(command, &bank);
             let open_row = self.rows.open_row(bank);
             self.banks[usize::from(number)].follow(touch, open_row, thresholds);
@@ -222,7 +211,7 @@ impl Activations {
     {
         Alert::stays();
         self.follow(clock, command, thresholds);
-        if is_rfm_all(command) {
+        if command.is_rfm_all() {
             self.alert.after_rfm_all();
         }
     }
@@ -241,9 +230,9 @@ impl Activations {
         let Some(thresholds) = told else {
             return;
         };
-        if is_precharge(command) {
+        if command.is_precharge() {
             self.precharge(clock, command, &thresholds);
-        } else if is_rfm(command) {
+        } else if command.is_rfm() {
             self.manage(clock, command, &thresholds);
         }
     }
@@ -263,23 +252,3 @@ impl Activations {
     }
 }
 
-fn is_precharge(command: &Command) -> bool
-    ensures { result ≡ is_precharge command.now }
-{
-    matches!(
-        command,
-        Command::PrePb(_) | Command::PreSb(_) | Command::PreAb
-    )
-}
-
-fn is_rfm_all(command: &Command) -> bool
-    ensures { result ≡ is_rfm_all command.now }
-{
-    matches!(command, Command::RfmAb)
-}
-
-fn is_rfm(command: &Command) -> bool
-    ensures { result ≡ (is_rfm_all command.now || is_rfm_same command.now) }
-{
-    matches!(command, Command::RfmAb | Command::RfmSb(_))
-}

@@ -15,7 +15,7 @@ ghost use Rattle.log_auditor.specs.Activations.{ActivationsKeep, BankKeeps, MayC
 use crate::bank_activity::{BankActivity, Touch};
 use backoff::Alert;
 use bank_state::Banks;
-use command_words::{Bank, BankAddr, Command, Group};
+use command_words::{Bank, Command};
 use ddr_io::OutOfMemory;
 use speed_bin::{Settings, Version};
 use std::alloc::Global;
@@ -78,7 +78,7 @@ impl Activations {
     {
         let mut closed = false;
         for number in 0..BANKS {
-            let bank = bank_at(number);
+            let bank = Bank::numbered(number);
             let touch = Touch::of(command, &bank);
             let opened = before.open_row(bank);
             if self.banks[usize::from(number)].issue(touch, opened) {
@@ -109,35 +109,9 @@ fn note(alert: &mut Alert, clock: u64, command: &Command, hot: bool, closed: boo
         → AlertStandsFor alert.new h (record { clock = clock; command = command.now } ∷ log) }
 {
     Alert::stays();
-    if is_precharge(command) {
+    if command.is_precharge() {
         alert.after_precharge(clock, hot, closed);
-    } else if is_rfm_all(command) {
+    } else if command.is_rfm_all() {
         alert.after_rfm_all();
     }
-}
-
-// The bank with this number.
-pub(crate) fn bank_at(number: u8) -> Bank
-    requires { number < 32 }
-    ensures { bank_number result ≡ number }
-{
-    Bank {
-        group: Group::new(number / 4).unwrap(),
-        address: BankAddr::new(number % 4).unwrap(),
-    }
-}
-
-fn is_precharge(command: &Command) -> bool
-    ensures { result ≡ is_precharge command.now }
-{
-    matches!(
-        command,
-        Command::PrePb(_) | Command::PreSb(_) | Command::PreAb
-    )
-}
-
-fn is_rfm_all(command: &Command) -> bool
-    ensures { result ≡ is_rfm_all command.now }
-{
-    matches!(command, Command::RfmAb)
 }

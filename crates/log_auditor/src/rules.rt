@@ -12,7 +12,6 @@ ghost use Rattle.speed_bin.specs.Rules.{first_failing, is_wanted, until};
 ghost use Rattle.speed_bin.specs.Timing.{IsTiming};
 ghost use Rattle.log_auditor.specs.Groups.{alert_rules, bank_rules, count_rules};
 
-use crate::activations::bank_at;
 use backoff::Alert;
 use bank_state::{Banks, StateFault};
 use command_words::{BankAddr, Command};
@@ -63,7 +62,7 @@ pub(crate) fn alert_rule(
     requires { IsTiming timing.now }
     ensures { (h : AnyHeader) (log : Log) → AlertStandsFor alert.now h log → timing.now ≡ h.timing → result ≡ first_failing 12 (alert_rules h clock command.now log) }
 {
-    let in_window = !is_act(command) || until(clock, alert.last_activate(timing));
+    let in_window = !command.is_act() || until(clock, alert.last_activate(timing));
     least_alert(in_window, until(clock, alert.deadline(timing)))
 }
 
@@ -94,12 +93,6 @@ fn least_alert(in_window: bool, in_time: bool) -> Option<u8>
     }
 }
 
-fn is_act(command: &Command) -> bool
-    ensures { result ≡ is_act command.now }
-{
-    matches!(command, Command::Act(_, _))
-}
-
 // Whether some bank is at RAAIMT or more, or the alert is raised.
 fn is_wanted_or(raa: &Raa, raised: bool) -> bool
     ensures { (h : AnyHeader) (log : Log) → RaaStandsFor raa.now h log → result ≡ (is_wanted h AnyCommand.RfmAb log || raised) }
@@ -113,7 +106,7 @@ fn is_wanted_at(raa: &Raa, raaimt: u32, address: BankAddr) -> bool
 {
     let at = address.get();
     for group in 0..8 {
-        if raa.count(bank_at(group * 4 + at)) >= raaimt {
+        if raa.count(Bank::numbered(group * 4 + at)) >= raaimt {
             return true;
         }
     }

@@ -164,7 +164,7 @@ impl Plan {
     fn scrubs_after(&self, command: &Command) -> u64
         ensures { result ≡ self.now.scrubs + (if is_scrub command.now then 1 else 0) }
     {
-        if is_scrub(command) {
+        if command.is_scrub() {
             self.scrubs + 1
         } else {
             self.scrubs
@@ -189,7 +189,7 @@ impl Plan {
     fn is_in_step(&self, command: &Command) -> bool
         ensures { result ≡ scrubs_in_time self.now.every self.now.scrubs (slice_index self.now.refreshes 0) command.now }
     {
-        let scrub = is_scrub(command);
+        let scrub = command.is_scrub();
         if self.every == 0 {
             return !scrub;
         }
@@ -259,10 +259,4 @@ fn refreshes(address: usize, command: &Command) -> bool
         Command::RefSb(own) => own.get() as usize == address,
         _ => false,
     }
-}
-
-fn is_scrub(command: &Command) -> bool
-    ensures { result ≡ is_scrub command.now }
-{
-    matches!(command, Command::Ecs)
 }

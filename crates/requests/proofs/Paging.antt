@@ -6,7 +6,7 @@ use Rattle.command_words.specs.declared.command.Command.{Command}
 use Rattle.command_words.specs.declared.command.Command.TheVariants.{Act, PrePb, PreSb, RefAb, RefSb, RfmAb, RfmSb, Ecs}
 use Rattle.command_words.specs.Kinds.{Effect, Opens, Closes, Manages, Refreshes, Leaves, effect, is_scrub, needs_closed}
 use Rattle.speed_bin.specs.Log.{Log, Issued, open_at, open_after}
-use Rattle.speed_bin.specs.Page.{last_row, keeps_page}
+use Rattle.speed_bin.specs.Page.{last_row, keeps_page, reopens}
 use Rattle.speed_bin.specs.Rules.{rule_5}
 use Rattle.speed_bin.proofs.Tests.{joined, when_not, none_from_test, all_below_at, all_below_from}
 use Rattle.requests.specs.declared.waiting.Waiting.{Waiting}
@@ -36,10 +36,6 @@ last_row_is b place log = go (effect b place.command) refl
     go Leaves p = rw p refl
 
 -- ---- The page, after a command
-
-abbrev reopens : Effect → Option ℕ → Bool
-reopens (Opens row) (Some last) = row == last
-reopens _ _ = false
 
 opens_other : (e : Effect) (o : Option ℕ) → ((row : ℕ) → e ≡ Opens row → o ≡ Some row → ⊥) → not (reopens e o) ≡ true
 opens_other (Opens row) None other = refl

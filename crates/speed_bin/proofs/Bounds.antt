@@ -220,8 +220,12 @@ acts_bounded h b row log ok low inside keeps =
 
 -- ---- The three of an accepted header
 
-pub four_activations_lem : (h : Header) (b : ℕ) (log : Log) → IsAccepted h → b < 32 → Keeps h log → acts_since_mark h b log ≤ suc (spare h)
-four_activations_lem h b log ok low keeps = few_since_mark h b log (bound_checks h ok) low keeps
+pub cycle_activations_lem : (h : Header) (b : ℕ) (log : Log) → IsAccepted h → b < 32 → Keeps h log → acts_since_mark h b log ≤ h.version.cycle
+unfolding spare
+cycle_activations_lem h b log ok low keeps =
+    let few = few_since_mark h b log (bound_checks h ok) low keeps in
+    let least = ok.version.0 in
+    omega (arith, few, least)
 
 pub weights_at_marks_lem : (h : Header) (b : ℕ) (log : Log) → IsAccepted h → b < 32 → Keeps h log → is_mark h b log ≡ true → weights_of h b log ≤ suc (spare h) * h.settings.rows * spare h ^ steps_of h
 weights_at_marks_lem h b log ok low keeps e = light_at_marks h b log (bound_checks h ok) low keeps e

@@ -1,5 +1,5 @@
 -- Heights, checks and bounds of cycles of 2 to 5 activations, computed.
-use Rattle.std.proofs.Common.{◌≡◌, ℕ, [], ◌∷◌, Some, None, refl}
+use Rattle.std.proofs.Common.{◌≡◌, ℕ, Some, None, refl}
 use Rattle.speed_bin.specs.declared.settings.RefreshMode.TheVariants.{All}
 use Rattle.speed_bin.specs.declared.header.Header.{Header}
 use Rattle.speed_bin.specs.Document.{window_fits, thresholds_fit, round_within_half, checks_of}

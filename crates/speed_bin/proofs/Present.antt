@@ -1,20 +1,21 @@
 -- Banks that there are not: nothing ever opens them, and no test of all 32 numbers depends on them.
-use Rattle.std.proofs.Common.{◌≡◌, ◌∙◌, ℕ, zero, suc, ◌+◌, ◌-◌, ◌*◌, ◌/◌, ◌%◌, ◌<◌, ◌≤◌, ◌⊎◌, Bool, true, false, ◌&&◌, ◌||◌, not, ◌==◌, nat_le, nat_lt, cond, refl, sym, ap, arith, inl, inr, subst, Option, Some, None, is_none, is_some, List, [], ◌∷◌, length, replicate, slice_set, ltb-true, ne_eqb, eq-eqb, eqb-true, lt-ltb, le-ltb, IsTrue, zero-add}
+use Rattle.std.proofs.Common.{◌≡◌, ◌∙◌, ℕ, zero, suc, ◌+◌, ◌%◌, ◌<◌, ◌≤◌, ◌⊎◌, Bool, true, false, ◌&&◌, ◌||◌, not, ◌==◌, nat_le, nat_lt, cond, refl, sym, ap, arith, inl, inr, subst, Option, Some, None, is_none, List, [], ◌∷◌, length, slice_set, ltb-true, ne_eqb, eq-eqb, eqb-true, zero-add}
 use Rattle.command_words.specs.Command.{bank_number, is_at, covers}
 use Rattle.command_words.specs.declared.place.Bank.{Bank}
 use Rattle.command_words.specs.declared.command.Command.{Command}
 use Rattle.command_words.specs.declared.command.Command.TheVariants.{Act, Rd, Wr, PrePb, PreSb, PreAb, RefAb, RefSb, RfmAb, RfmSb, Mrw, Ecs, Nop}
 use Rattle.speed_bin.specs.declared.header.Header.{Header}
 use Rattle.speed_bin.specs.Below.{all_below, any_below}
-use Rattle.command_words.specs.Kinds.{Effect, Opens, Closes, Manages, Refreshes, Leaves, effect, needs_closed}
+use Rattle.command_words.specs.Kinds.{Effect, Opens, Closes, Manages, Refreshes, Leaves, effect, is_scrub, needs_closed}
 use Rattle.speed_bin.specs.Log.{Issued, Log, open_after, open_at, raa, raa_after}
-use Rattle.speed_bin.specs.Counters.{Counter, count_of, tracked, counters, counters_after, after_close, after_mitigation, mitigated, cnt, acts, acts_after, is_row}
+use Rattle.speed_bin.specs.Counters.{Counter, count_of, counters, counters_after, after_mitigation, mitigated, cnt, acts, acts_after, is_row}
 use Rattle.speed_bin.specs.Alert.{closes, closes_some, is_hot}
 use Rattle.speed_bin.specs.Gap.{meet}
-use Rattle.speed_bin.specs.Page.{last_row}
+use Rattle.speed_bin.specs.Marks.{RowsInRange, opens_inside}
+use Rattle.speed_bin.specs.Page.{keeps_page, last_row, last_row_after, reopens}
 use Rattle.speed_bin.specs.Rules.{rule_5, is_wanted, all_closed}
 use Rattle.speed_bin.specs.Present.{banks_of, has_bank, HasBanks}
-use Rattle.speed_bin.proofs.Tests.{both, joined, or_left, or_right, true_or_false, any_below_at, any_below_none, all_below_at}
+use Rattle.speed_bin.proofs.Tests.{both, joined, or_right, any_below_at, any_below_none}
 use Rattle.speed_bin.proofs.Splits.{below_or_not}
 use Rattle.speed_bin.proofs.Rows.{unused_counts}
 use Rattle.std.proofs.lemmas.Bool.Decides.{nat_tests}
@@ -169,7 +170,7 @@ pub rule_5_agrees : (groups k : ℕ) (command : Command) (log : Log) → Absent 
 rule_5_agrees groups k command log is has =
     ap (λ (t : Bool). not (needs_closed command) || t)
     (all_agrees groups k (λ b. not (covers command b) || is_none (open_at b log)) is
-      (λ b high. or_right (not (covers command b)) (is_none (open_at b log)) (let shut = absent_closed groups b log high has in rw shut refl)))
+    (λ b high. or_right (not (covers command b)) (is_none (open_at b log)) (let shut = absent_closed groups b log high has in rw shut refl)))
 
 closes_none : (e : Effect) → closes e None ≡ false
 closes_none (Opens row) = refl
@@ -192,7 +193,7 @@ pub is_hot_agrees : (h : Header) (groups k : ℕ) (log : Log) → 1 ≤ h.settin
 is_hot_agrees h groups k log some is has =
     any_agrees groups k (λ b. any_below h.settings.rows (λ row. nat_le h.settings.ath (cnt h b row log))) is
     (λ b high. any_below_none h.settings.rows (λ row. nat_le h.settings.ath (cnt h b row log))
-      (λ row. ap (nat_le h.settings.ath) (absent_counts h groups b log high has row) ∙ none_reached h.settings.ath some))
+    (λ row. ap (nat_le h.settings.ath) (absent_counts h groups b log high has row) ∙ none_reached h.settings.ath some))
 
 and_false : (x y : Bool) → y ≡ false → (x && y) ≡ false
 and_false true y h = h
@@ -260,3 +261,41 @@ meet_agrees groups k first second some is one two = same_tests (meet first secon
 
     down : meet first second ≡ true → any_below (banks_of groups) (λ b. covers first b && covers second b) ≡ true
     down h = let w = found_below 32 (λ b. covers first b && covers second b) h in at w.0 w.2 (below_or_not w.0 (banks_of groups))
+
+-- ---- Open page
+
+stays_unopened : (e : Effect) (scrub : Bool) → OpensNothing e → last_row_after e scrub None ≡ None
+stays_unopened (Opens row) scrub none = absurd (none row refl)
+stays_unopened Closes scrub none = refl
+stays_unopened Manages scrub none = refl
+stays_unopened Refreshes scrub none = refl
+stays_unopened Leaves true none = refl
+stays_unopened Leaves false none = refl
+
+pub absent_page : (groups b : ℕ) (log : Log) → banks_of groups ≤ b → HasBanks groups log → last_row b log ≡ None
+absent_page groups b [] high has = refl
+absent_page groups b (place ∷ log) high has =
+    ap (last_row_after (effect b place.command) (is_scrub place.command)) (absent_page groups b log high has.0)
+    ∙ stays_unopened (effect b place.command) (is_scrub place.command) (opens_nothing groups b place.command high has.1)
+
+reopens_none : (e : Effect) → not (reopens e None) ≡ true
+reopens_none (Opens row) = refl
+reopens_none Closes = refl
+reopens_none Manages = refl
+reopens_none Refreshes = refl
+reopens_none Leaves = refl
+
+-- open page at one place
+pub keeps_page_agrees : (groups k : ℕ) (place : Issued) (log : Log) → Absent groups k → HasBanks groups log
+    → keeps_page (place ∷ log) ≡ (keeps_page log && all_below (banks_of groups) (λ b. not (reopens (effect b place.command) (last_row b log))))
+keeps_page_agrees groups k place log is has =
+    ap (λ (t : Bool). keeps_page log && t)
+    (all_agrees groups k (λ b. not (reopens (effect b place.command) (last_row b log))) is
+    (λ b high. ap (λ (o : Option ℕ). not (reopens (effect b place.command) o)) (absent_page groups b log high has) ∙ reopens_none (effect b place.command)))
+
+-- ---- Logs within the header's ranges
+
+-- such a log names only banks that there are
+pub has_banks : (h : Header) (log : Log) → RowsInRange h log → HasBanks h.version.groups log
+has_banks h [] inside = tt
+has_banks h (place ∷ log) inside = (has_banks h log inside.0, (both (opens_inside h place.command) (has_bank h.version.groups place.command) inside.1).1)

@@ -12,7 +12,7 @@ use Rattle.speed_bin.specs.Document.{window_fits, thresholds_fit, round_within_h
 use Rattle.speed_bin.specs.Height.{height_of}
 use Rattle.speed_bin.specs.Header.{bound, spare}
 use Rattle.speed_bin.specs.Rules.{verdict_at_end, first_failing}
-use Rattle.speed_bin.specs.Timing.{tiny, prac_4800}
+use Rattle.speed_bin.specs.Timing.{tiny}
 use Rattle.speed_bin.proofs.Examples.{act, rfm_all, opened_and_closed, then, log_of}
 
 abbrev header : Header

@@ -1,29 +1,31 @@
 -- What the bound on activations speaks of: logs that keep five of the rules, and the marks of a bank.
-use Rattle.std.specs.Prelude.{◌≡◌, ◌<◌, ◌*◌, ℕ, suc, Bool, true, ◌&&◌, ◌||◌, nat_lt, if◌then◌else◌, [], ◌∷◌, IsTrue, ⊤}
+use Rattle.std.specs.Prelude.{◌≡◌, ◌<◌, ℕ, suc, Bool, true, ◌&&◌, ◌||◌, nat_lt, if◌then◌else◌, [], ◌∷◌, IsTrue, ⊤}
 use Rattle.command_words.specs.Command.{bank_number}
 use Rattle.command_words.specs.declared.place.Bank.{Bank}
 use Rattle.command_words.specs.declared.command.Command.{Command}
-use Rattle.command_words.specs.declared.command.Command.TheVariants.{Act, Rd, Wr, PrePb}
+use Rattle.command_words.specs.declared.command.Command.TheVariants.{Act}
 use Rattle.speed_bin.specs.Below.{all_below}
 use Rattle.command_words.specs.Kinds.{Effect, Opens, Closes, Manages, Refreshes, Leaves, effect, is_rfm_all}
 use Rattle.speed_bin.specs.Log.{Issued, Log}
+use Rattle.speed_bin.specs.Present.{has_bank, is_present}
 use Rattle.speed_bin.specs.Counters.{acts}
 use Rattle.speed_bin.specs.Rules.{rule_1, rule_2, rule_4, rule_5, rule_12}
 use Rattle.speed_bin.specs.declared.header.Header.{Header}
 
 -- the bank is one of the header's groups
 abbrev pub is_bank : Header → Bank → Bool
-is_bank h bank = nat_lt (bank_number bank) (h.version.groups * 4)
+is_bank h bank = is_present h.version.groups bank
 
--- a bank that a command names is one of the header's, and an ACT opens a row of the header
+-- an ACT opens a row of the header
+abbrev pub opens_inside : Header → Command → Bool
+opens_inside h (Act bank row) = nat_lt row h.settings.rows
+opens_inside h _ = true
+
+-- and a command that names one bank names one of the header's
 abbrev pub is_in_range : Header → Command → Bool
-is_in_range h (Act bank row) = nat_lt row h.settings.rows && is_bank h bank
-is_in_range h (Rd bank column) = is_bank h bank
-is_in_range h (Wr bank column) = is_bank h bank
-is_in_range h (PrePb bank) = is_bank h bank
-is_in_range h _ = true
+is_in_range h command = opens_inside h command && has_bank h.version.groups command
 
--- each command of the log is
+-- each command of the log is within the header's ranges
 abbrev pub RowsInRange : Header → Log → Type 0
 RowsInRange h [] = ⊤
 RowsInRange h (place ∷ log) = RowsInRange h log × IsTrue (is_in_range h place.command)

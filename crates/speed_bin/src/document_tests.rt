@@ -4,6 +4,9 @@ use std::test::Fail;
 const SMALL: &str =
     "format = 1\nbin = \"tiny\"\nrows = 16\nath = 5\neth = 3\nraaimt = 8\nraammt = 16\nrefresh = \"all\"\necs_every = 0\n";
 
+const LARGE: &str =
+    "format = 1\nbin = \"4800-prac\"\nrows = 65536\nath = 64\neth = 32\nraaimt = 32\nraammt = 64\nrefresh = \"all\"\necs_every = 8\n";
+
 #[test]
 fn derived_numbers_of_the_bins(rt: HostRuntime) -> Result<(), Fail> {
     let tiny = named("tiny").ok_or("tiny")?;
@@ -32,6 +35,53 @@ fn a_header_is_read(rt: HostRuntime) -> Result<(), Fail> {
     let header = read_header(rt.alloc(), replaced.as_bytes(), Version::plain())?;
     assert_eq!(rt; header.timing.nrcd, 4);
     assert_eq!(rt; header.timing.nras, 6);
+    Ok(())
+}
+
+#[test]
+fn versions_are_within_their_ranges(rt: HostRuntime) -> Result<(), Fail> {
+    for cycle in 2..6 {
+        let four = Version::new(cycle, 4).ok_or("four groups")?;
+        assert_eq!(rt; four.cycle(), cycle);
+        assert_eq!(rt; four.groups(), 4);
+        let eight = Version::new(cycle, 8).ok_or("eight groups")?;
+        assert_eq!(rt; eight.cycle(), cycle);
+        assert_eq!(rt; eight.groups(), 8);
+    }
+    assert!(rt; Version::new(1, 8).is_none());
+    assert!(rt; Version::new(6, 8).is_none());
+    assert!(rt; Version::new(4, 6).is_none());
+    assert!(rt; Version::new(4, 0).is_none());
+    assert!(rt; Version::plain() == Version::new(4, 8).ok_or("plain")?);
+    Ok(())
+}
+
+#[test]
+fn checks_read_the_cycle(rt: HostRuntime) -> Result<(), Fail> {
+    let alloc = rt.alloc();
+    let five = Version::new(5, 8).ok_or("five")?;
+    let three = Version::new(3, 8).ok_or("three")?;
+    let two = Version::new(2, 8).ok_or("two")?;
+    let low = read_header(alloc, SMALL.as_bytes(), five);
+    assert!(rt; low == Err(HeaderFault::Check(3)));
+    let wide = read_header(alloc, LARGE.as_bytes(), three);
+    assert!(rt; wide == Err(HeaderFault::Check(2)));
+    let header = read_header(alloc, LARGE.as_bytes(), five)?;
+    assert_eq!(rt; header.spare(), 4);
+    let tight =
+        "format = 1\nbin = 'tiny'\nrows = 1\nath = 3\neth = 3\nraaimt = 8\nraammt = 16\nrefresh = 'all'\necs_every = 0\n[timing]\nnABO = 13\n";
+    let header = read_header(alloc, tight.as_bytes(), two)?;
+    assert_eq!(rt; header.spare(), 1);
+    assert_eq!(rt; header.timing.nabo, 13);
+    Ok(())
+}
+
+#[test]
+fn a_header_of_four_groups_has_half_the_lines(rt: HostRuntime) -> Result<(), Fail> {
+    let half = Version::new(4, 4).ok_or("four groups")?;
+    let header = read_header(rt.alloc(), SMALL.as_bytes(), half)?;
+    assert_eq!(rt; header.geometry().lines(), 16384);
+    assert_eq!(rt; header.spare(), 3);
     Ok(())
 }
 

@@ -1,14 +1,11 @@
 //! The gap between two commands, by the table of `docs/RULES.md`: a function for the rows of each kind of first
 //! command, in the order of the table.
-ghost use Rattle.std.specs.Prelude.{ℕ, ◌≡◌, ◌<◌, ◌≤◌, ◌^◌, ◌==◌, ◌&&◌, not, max, if◌then◌else◌};
+ghost use Rattle.std.specs.Prelude.{ℕ, ◌≡◌, ◌<◌, ◌≤◌, ◌^◌, ◌==◌, ◌&&◌, ◌||◌, not, max, if◌then◌else◌};
 ghost use Rattle.command_words.specs.declared.place.Bank.{Bank};
 ghost use Rattle.speed_bin.specs.Gap.{gap, meet};
-ghost use Rattle.command_words.specs.Kinds.{group_of, is_nop};
+ghost use Rattle.command_words.specs.Kinds.{group_of, is_act, is_nop, needs_closed};
 ghost use Rattle.speed_bin.specs.Timing.{IsClocks, IsTiming};
 
-use crate::kinds::{
-    follows_precharge, group_of, is_act, is_column, is_nop, is_precharge, is_rd, is_wr,
-};
 use crate::scope::meet;
 use command_words::Command;
 use speed_bin::Timing;
@@ -21,7 +18,7 @@ pub fn gap(timing: &Timing, first: &Command, second: &Command) -> u32
     ensures in_range { (1 ≤ result) × (result < 2 ^ 18) }
 {
     let together = meet(first, second);
-    let same_group = group_of(first) == group_of(second);
+    let same_group = first.group() == second.group();
     match first {
         Command::Act(_, _) => after_act(timing, second, same_group, together),
         Command::Rd(_, _) => after_rd(timing, second, same_group, together),
@@ -45,11 +42,11 @@ fn after_act(timing: &Timing, second: &Command, same_group: bool, together: bool
     ensures in_range { (1 ≤ result) × (result < 2 ^ 18) }
 {
     entry(true, 2)
-        .max(entry(is_act(second), timing.nrrd_s))
-        .max(entry_where(is_act(second), same_group, timing.nrrd_l))
-        .max(entry_where(is_act(second), together, timing.nrc))
-        .max(entry_where(is_column(second), together, timing.nrcd))
-        .max(entry_where(is_precharge(second), together, timing.nras))
+        .max(entry(second.is_act(), timing.nrrd_s))
+        .max(entry_where(second.is_act(), same_group, timing.nrrd_l))
+        .max(entry_where(second.is_act(), together, timing.nrc))
+        .max(entry_where(second.is_column(), together, timing.nrcd))
+        .max(entry_where(second.is_precharge(), together, timing.nras))
 }
 
 fn after_rd(timing: &Timing, second: &Command, same_group: bool, together: bool) -> u32
@@ -58,10 +55,10 @@ fn after_rd(timing: &Timing, second: &Command, same_group: bool, together: bool)
     ensures in_range { (1 ≤ result) × (result < 2 ^ 18) }
 {
     entry(true, 2)
-        .max(entry(is_rd(second), timing.nccd_s))
-        .max(entry_where(is_rd(second), same_group, timing.nccd_l))
-        .max(entry(is_wr(second), (timing.ncl + 10).saturating_sub(timing.ncwl)))
-        .max(entry_where(is_precharge(second), together, timing.nrtp))
+        .max(entry(second.is_rd(), timing.nccd_s))
+        .max(entry_where(second.is_rd(), same_group, timing.nccd_l))
+        .max(entry(second.is_wr(), (timing.ncl + 10).saturating_sub(timing.ncwl)))
+        .max(entry_where(second.is_precharge(), together, timing.nrtp))
 }
 
 fn after_wr(timing: &Timing, second: &Command, same_group: bool, together: bool) -> u32
@@ -71,11 +68,11 @@ fn after_wr(timing: &Timing, second: &Command, same_group: bool, together: bool)
 {
     let burst = timing.ncwl + 8;
     entry(true, 2)
-        .max(entry(is_wr(second), timing.nccd_s))
-        .max(entry_where(is_wr(second), same_group, timing.nccd_l_wr))
-        .max(entry(is_rd(second), burst + timing.nwtr_s))
-        .max(entry_where(is_rd(second), same_group, burst + timing.nwtr_l))
-        .max(entry_where(is_precharge(second), together, burst + timing.nwr))
+        .max(entry(second.is_wr(), timing.nccd_s))
+        .max(entry_where(second.is_wr(), same_group, timing.nccd_l_wr))
+        .max(entry(second.is_rd(), burst + timing.nwtr_s))
+        .max(entry_where(second.is_rd(), same_group, burst + timing.nwtr_l))
+        .max(entry_where(second.is_precharge(), together, burst + timing.nwr))
 }
 
 // Of PREpb, PREsb and PREab.
@@ -95,7 +92,7 @@ fn after_busy(clocks: u32, second: &Command, together: bool) -> u32
     ensures busy { result ≡ max 1 (if not (is_nop second.now) && together then clocks else 0) }
     ensures in_range { (1 ≤ result) × (result < 2 ^ 16) }
 {
-    entry(true, 1).max(entry_where(!is_nop(second), together, clocks))
+    entry(true, 1).max(entry_where(!second.is_nop(), together, clocks))
 }
 
 // An entry of the table: its clocks where it applies.
@@ -110,4 +107,11 @@ fn entry_where(applies: bool, there: bool, clocks: u32) -> u32
     ensures { result ≡ (if applies && there then clocks else 0) }
 {
     if applies && there { clocks } else { 0 }
+}
+
+// ACT, and the commands that need their banks closed.
+pub(crate) fn follows_precharge(command: &Command) -> bool
+    ensures { result ≡ (is_act command.now || needs_closed command.now) }
+{
+    command.is_act() || command.needs_closed()
 }

@@ -13,9 +13,7 @@ ghost use Rattle.timing_rules.specs.Spaced.{spacing_rules};
 
 use crate::Clock;
 use crate::kept::{Addressed, Banked, within_all};
-use crate::kinds::{
-    follows_precharge, group_of, is_act, is_column, is_nop, is_precharge, is_rd, is_wr,
-};
+use crate::gaps::follows_precharge;
 use crate::rows::row;
 use crate::scope::{Scope, scope_of};
 use circular_buffer::HeapCircularBuffer;
@@ -190,13 +188,13 @@ impl Gate {
         ensures { (t : Timing) (log : Log) → Keeps self.now t log → (clock : ℕ) → (AllClear (act_rows self.now.timing command.now) clock log ↔ (result ≤ clock)) }
     {
         let acts = &self.acts;
-        let in_group = acts.in_group(group_of(command));
+        let in_group = acts.in_group(command.group());
         let met = acts.within(scope);
-        row(is_act(command), acts.any, self.timing.nrrd_s)
-            .max(row(is_act(command), in_group, self.timing.nrrd_l))
-            .max(row(is_act(command), met, self.timing.nrc))
-            .max(row(is_column(command), met, self.timing.nrcd))
-            .max(row(is_precharge(command), met, self.timing.nras))
+        row(command.is_act(), acts.any, self.timing.nrrd_s)
+            .max(row(command.is_act(), in_group, self.timing.nrrd_l))
+            .max(row(command.is_act(), met, self.timing.nrc))
+            .max(row(command.is_column(), met, self.timing.nrcd))
+            .max(row(command.is_precharge(), met, self.timing.nras))
     }
 
     fn behind_reads(&self, command: &Command, scope: Scope) -> Clock
@@ -206,12 +204,12 @@ impl Gate {
         ensures { (t : Timing) (log : Log) → Keeps self.now t log → (clock : ℕ) → (AllClear (rd_rows self.now.timing command.now) clock log ↔ (result ≤ clock)) }
     {
         let reads = &self.reads;
-        let in_group = reads.in_group(group_of(command));
+        let in_group = reads.in_group(command.group());
         let turn = (self.timing.ncl + 10).saturating_sub(self.timing.ncwl);
-        row(is_rd(command), reads.any, self.timing.nccd_s)
-            .max(row(is_rd(command), in_group, self.timing.nccd_l))
-            .max(row(is_wr(command), reads.any, turn))
-            .max(row(is_precharge(command), reads.within(scope), self.timing.nrtp))
+        row(command.is_rd(), reads.any, self.timing.nccd_s)
+            .max(row(command.is_rd(), in_group, self.timing.nccd_l))
+            .max(row(command.is_wr(), reads.any, turn))
+            .max(row(command.is_precharge(), reads.within(scope), self.timing.nrtp))
     }
 
     fn behind_writes(&self, command: &Command, scope: Scope) -> Clock
@@ -221,14 +219,14 @@ impl Gate {
         ensures { (t : Timing) (log : Log) → Keeps self.now t log → (clock : ℕ) → (AllClear (wr_rows self.now.timing command.now) clock log ↔ (result ≤ clock)) }
     {
         let writes = &self.writes;
-        let in_group = writes.in_group(group_of(command));
+        let in_group = writes.in_group(command.group());
         let burst = self.timing.ncwl + 8;
-        row(is_wr(command), writes.any, self.timing.nccd_s)
-            .max(row(is_wr(command), in_group, self.timing.nccd_l_wr))
-            .max(row(is_rd(command), writes.any, burst + self.timing.nwtr_s))
-            .max(row(is_rd(command), in_group, burst + self.timing.nwtr_l))
+        row(command.is_wr(), writes.any, self.timing.nccd_s)
+            .max(row(command.is_wr(), in_group, self.timing.nccd_l_wr))
+            .max(row(command.is_rd(), writes.any, burst + self.timing.nwtr_s))
+            .max(row(command.is_rd(), in_group, burst + self.timing.nwtr_l))
             .max(row(
-                is_precharge(command),
+                command.is_precharge(),
                 writes.within(scope),
                 burst + self.timing.nwr,
             ))
@@ -253,7 +251,7 @@ impl Gate {
         requires covers { (b : ℕ) → is_within scope b ≡ covers command.now b }
         ensures { (t : Timing) (log : Log) → Keeps self.now t log → (clock : ℕ) → (AllClear (busy_rows self.now.timing command.now) clock log ↔ (result ≤ clock)) }
     {
-        let waits = !is_nop(command);
+        let waits = !command.is_nop();
         row(waits, self.all_refreshes, self.timing.nrfc)
             .max(row(
                 waits,
@@ -275,7 +273,7 @@ impl Gate {
         ensures { (t : Timing) (log : Log) → Keeps self.now t log → (clock : ℕ) → (IsTrue (rule_3 self.now.timing clock command.now log) ↔ (result ≤ clock)) }
     {
         let first = self.window.get(3).copied();
-        row(is_act(command), first, self.timing.nfaw)
+        row(command.is_act(), first, self.timing.nfaw)
     }
 }
 

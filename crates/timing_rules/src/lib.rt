@@ -4,7 +4,6 @@
 mod gaps;
 mod gate;
 mod kept;
-mod kinds;
 mod rows;
 mod scope;
 

@@ -205,13 +205,13 @@ fn scanned(timing: &Timing, issued: &[(Clock, Command)], command: &Command) -> C
     for (clock, earlier) in issued {
         least = least.max(clock.saturating_add(u64::from(gap(timing, earlier, command))));
     }
-    if !is_act(command) {
+    if !command.is_act() {
         return least;
     }
     match issued
         .iter()
         .rev()
-        .filter(|(_, earlier)| is_act(earlier))
+        .filter(|(_, earlier)| earlier.is_act())
         .nth(3)
     {
         Some((clock, _)) => least.max(clock.saturating_add(u64::from(timing.nfaw))),

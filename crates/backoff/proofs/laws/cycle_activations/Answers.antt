@@ -1,5 +1,5 @@
-use Rattle.speed_bin.proofs.Bounds.{four_activations_lem}
+use Rattle.speed_bin.proofs.Bounds.{cycle_activations_lem}
 use Rattle.backoff.proofs.laws.cycle_activations.Goals as goal
 
 pub returns : goal.returns
-returns c = record { at_most = four_activations_lem }
+returns c = record { at_most = cycle_activations_lem }

@@ -5,13 +5,13 @@ use Rattle.log_auditor.proofs.rules.is_wanted_at.Goals as goal
 
 pub loop-group-preserved : goal.loop-group-preserved
 loop-group-preserved c = λ h log stands same.
-    let count : c.count.result ≡ raa h (c.loop-group.group * 4 + c.get-at.result) log = c.count.ensures h log stands ∙ ap (λ (b : ℕ). raa h b log) c.bank_at.ensures in
+    let count : c.count.result ≡ raa h (c.loop-group.group * 4 + c.get-at.result) log = c.count.ensures h log stands ∙ ap (λ (b : ℕ). raa h b log) c.numbered.ensures in
     let few = c.if-count-raaimt.false in
     below_next (λ group. raa h (group * 4 + c.get-at.result) log) c.loop-group.group c.args.raaimt (c.loop-group.invariant h log stands same) (omega arith)
 
 pub returns-then-count-raaimt : goal.returns-then-count-raaimt
 returns-then-count-raaimt c = λ h log stands same.
-    let count : c.count.result ≡ raa h (c.loop-group.group * 4 + c.args.address) log = c.count.ensures h log stands ∙ ap (λ (b : ℕ). raa h b log) (c.bank_at.ensures ∙ ap (λ (a : ℕ). c.loop-group.group * 4 + a) c.get-at.ensures.number) in
+    let count : c.count.result ≡ raa h (c.loop-group.group * 4 + c.args.address) log = c.count.ensures h log stands ∙ ap (λ (b : ℕ). raa h b log) (c.numbered.ensures ∙ ap (λ (a : ℕ). c.loop-group.group * 4 + a) c.get-at.ensures.number) in
     let low = c.get-at.ensures.in_range in
     let at = c.get-at.ensures.number in
     let high = c.if-count-raaimt.true in

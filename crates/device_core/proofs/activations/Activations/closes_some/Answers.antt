@@ -8,7 +8,7 @@ use Rattle.device_core.proofs.activations.Activations.closes_some.Goals as goal
 
 pub returns-then-closes : goal.returns-then-closes
 returns-then-closes c = λ h log stands.
-    let here = rw c.bank_of.ensures at (sym (c.if-closes.ensures h log stands)) in
+    let here = rw c.numbered.ensures at (sym (c.if-closes.ensures h log stands)) in
     sym (any_below_at 32 (λ b. closes (effect b c.args.command.now) (open_at b log)) c.loop-number.number c.loop-number-test.true here)
 
 pub returns : goal.returns

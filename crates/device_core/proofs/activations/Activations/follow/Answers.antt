@@ -27,7 +27,7 @@ follow-requires c =
     subst (λ (x : BankRows). MayTouch c.of-touch.result c.open_row-open_row.result x.counts) (sym read)
     (may_touch c.bound.ensures.bounded c.may_change.ensures.close c.may_change.ensures.mitigate (record { close = c.holds_by_some_log.ensures.close; mitigate = c.holds_by_some_log.ensures.mitigate })
     c.args.self.now c.args.clock c.args.command.now c.loop-number.number c.of-touch.result c.open_row-open_row.result test c.requires
-    (λ h log stands. opened_at c.loop-number.self.rows c.args.self.now.rows c.open_row-open_row.result (bank_number c.bank_of-bank.result) c.loop-number.number log c.open_row-open_row.ensures c.loop-number.invariant.rows c.bank_of-bank.ensures stands.rows))
+    (λ h log stands. opened_at c.loop-number.self.rows c.args.self.now.rows c.open_row-open_row.result (bank_number c.numbered-bank.result) c.loop-number.number log c.open_row-open_row.ensures c.loop-number.invariant.rows c.numbered-bank.ensures stands.rows))
 
 pub loop-number-preserved : goal.loop-number-preserved
 unfolding StandsFor
@@ -46,7 +46,7 @@ loop-number-preserved c =
           (c.loop-number.invariant.done h log stands legal same)
           (c.follow.ensures h c.loop-number.number c.args.clock c.args.command.now log
           (subst (λ (x : BankRows). BankFor x h c.loop-number.number log) (sym read) (stands.counts c.loop-number.number test)) same
-          (c.of-touch.ensures ∙ ap (λ (n : ℕ). touch_of (effect n c.args.command.now)) c.bank_of-bank.ensures)
-          (opened_at c.loop-number.self.rows c.args.self.now.rows c.open_row-open_row.result (bank_number c.bank_of-bank.result) c.loop-number.number log c.open_row-open_row.ensures c.loop-number.invariant.rows c.bank_of-bank.ensures stands.rows)) low);
+          (c.of-touch.ensures ∙ ap (λ (n : ℕ). touch_of (effect n c.args.command.now)) c.numbered-bank.ensures)
+          (opened_at c.loop-number.self.rows c.args.self.now.rows c.open_row-open_row.result (bank_number c.numbered-bank.result) c.loop-number.number log c.open_row-open_row.ensures c.loop-number.invariant.rows c.numbered-bank.ensures stands.rows)) low);
       left = λ b high. rw c.from.ensures (set_elsewhere c.loop-number.self.banks.items c.loop-number.number b c.follow.new.self (λ e. absurd (omega (arith, e, high))) ∙ c.loop-number.invariant.left b (omega (arith, high)));
     }

@@ -24,7 +24,7 @@ issue-requires c =
     let m = c.requires.may in
     let i = c.loop-number.invariant in
     let long = i.long in
-    let same = c.bank_at-bank.ensures in (
+    let same = c.numbered-bank.ensures in (
       m.0,
       c.loop-number.number,
       m.1,
@@ -41,7 +41,7 @@ pub loop-number-preserved : goal.loop-number-preserved
 loop-number-preserved c =
     let i = c.loop-number.invariant in
     let long = i.long in
-    let same = c.bank_at-bank.ensures in
+    let same = c.numbered-bank.ensures in
     let touched : c.of-touch.result ≡ touch_of (effect c.loop-number.number c.args.command.now) = c.of-touch.ensures ∙ ap (λ (b : ℕ). touch_of (effect b c.args.command.now)) same in
     record {
       alert = i.alert;

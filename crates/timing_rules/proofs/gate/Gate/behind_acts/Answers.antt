@@ -13,7 +13,7 @@ returns c = λ t log s clock.
     let own = c.args.self.now.timing in
     let stands : Stands t log = record { spaced = s.spaced; small = s.small } in
     let second = c.args.command.now in
-    let same_group = λ (d : Command). ap (λ g. group_of d == g) (sym c.group_of.ensures.group) in
+    let same_group = λ (d : Command). ap (λ g. group_of d == g) (sym c.group.ensures.group) in
     let met = λ (d : Command). meet_touches d second c.args.scope c.requires.covers in
     let r1 : Row = record { test = λ first. is_act first && is_act second; clocks = own.nrrd_s } in
     let r2 : Row = record { test = λ first. is_act first && (is_act second && (group_of first == group_of second)); clocks = own.nrrd_l } in
@@ -25,7 +25,7 @@ returns c = λ t log s clock.
     (next_row r3 (r2 ∷ r1 ∷ []) c.max-2.result c.max.result c.row-3.result clock log c.max-2.ensures
     (next_row r2 (r1 ∷ []) c.max.result c.row.result c.row-2.result clock log c.max.ensures
     (first_row r1 c.row.result clock log (row_kinds is_act (is_act second) c.is_act.result (own.nrrd_s) c.args.self.now.acts.any c.row.result t log stands s.acts.any c.row.ensures c.is_act.ensures clock))
-    (row_there is_act (λ first. group_of first == group_of second) (λ d. group_of d == c.group_of.result) (is_act second) c.is_act-2.result (own.nrrd_l) c.in_group-in_group.result c.row-2.result t log stands (c.in_group-in_group.ensures is_act log s.acts) c.row-2.ensures c.is_act-2.ensures same_group clock))
+    (row_there is_act (λ first. group_of first == group_of second) (λ d. group_of d == c.group.result) (is_act second) c.is_act-2.result (own.nrrd_l) c.in_group-in_group.result c.row-2.result t log stands (c.in_group-in_group.ensures is_act log s.acts) c.row-2.ensures c.is_act-2.ensures same_group clock))
     (row_there is_act (λ first. meet first second) (touches c.args.scope) (is_act second) c.is_act-3.result (own.nrc) c.within-met.result c.row-3.result t log stands (c.within-met.ensures is_act log s.acts) c.row-3.ensures c.is_act-3.ensures met clock))
     (row_there is_act (λ first. meet first second) (touches c.args.scope) ((is_rd second || is_wr second)) c.is_column.result (own.nrcd) c.within-met.result c.row-4.result t log stands (c.within-met.ensures is_act log s.acts) c.row-4.ensures c.is_column.ensures met clock))
     (row_there is_act (λ first. meet first second) (touches c.args.scope) (is_precharge second) c.is_precharge.result (own.nras) c.within-met.result c.row-5.result t log stands (c.within-met.ensures is_act log s.acts) c.row-5.ensures c.is_precharge.ensures met clock)
