@@ -14,7 +14,7 @@ ghost use Rattle.log_auditor.specs.Groups.{alert_rules, bank_rules, count_rules}
 
 use backoff::Alert;
 use bank_state::{Banks, StateFault};
-use command_words::{BankAddr, Command};
+use command_words::{Bank, BankAddr, Command};
 use rfm_counts::Raa;
 use speed_bin::Timing;
 
