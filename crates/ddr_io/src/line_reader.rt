@@ -1,7 +1,7 @@
 //! A reader of lines.
 ghost use Rattle.std.specs.Prelude.{ℕ, ◌≡◌, ◌≢◌, ◌+◌, ◌/◌, ◌<◌, ◌≤◌, [], length, take, drop, slice_index, slice_range, IfSome, IfNone};
 ghost use Rattle.ddr_io.specs.Faults.{Rose};
-ghost use Rattle.ddr_io.specs.Line.{IsNextLine, IsFeedAt, HasFeed, HasNoFeed, next_bytes};
+ghost use Rattle.ddr_io.specs.Line.{IsNextLine, IsFeedAt, HasFeed, HasNoFeed, TakesToFeed, next_bytes};
 ghost use Rattle.ddr_io.specs.Reading.{Reading, Fills};
 
 use crate::{Got, Source};
@@ -101,8 +101,10 @@ impl LineReader {
         ensures stays { self.old.last ≢ Line.Text → self.new ≡ record self.old { line = [] } }
         ensures stopped { self.old.last ≢ Line.Text → source.new ≡ source.old }
 
-        // It reads only while it holds no line feed.
+        // It reads only while it holds no line feed, so what it took ends with one read.
         ensures unread { HasFeed self.old.held → source.new ≡ source.old }
+        ensures taken { self.old.last ≡ Line.Text → HasNoFeed self.old.held →
+            TakesToFeed self.old.held (S.left source.old) (S.left source.new) }
         ensures unfed { self.old.last ≡ Line.Text → result ≡ Line.Failed → HasNoFeed self.new.held }
 
         // A fault is told where the source counted one.

@@ -20,6 +20,7 @@ returns-in-Bytes-clause-bytes g c =
         take n read,
         more ∙ ap (λ l. l ++ take n read) (room.ensures.moved ∙ held),
         omega (arith, length-take-le n read bound.1, bound.0),
+        omega (arith, length-take-le n read bound.1, bound.1, c.read-got.auto.buf),
         c.in-Bytes.ensures.bytes,
       );
     }

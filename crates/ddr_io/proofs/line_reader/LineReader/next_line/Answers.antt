@@ -1,6 +1,8 @@
-use Rattle.std.proofs.Common.{◌≤◌, ap, arith, length, take, length-append}
+use Rattle.std.proofs.Common.{◌≤◌, ap, arith, rules, length, take, length-append}
+use Rattle.std.proofs.lemmas.Grind.{common_steps}
 use Rattle.ddr_io.specs.Line.{HasNoFeed}
 use Rattle.ddr_io.proofs.Lines.{IsTooLong-held}
+use Rattle.ddr_io.proofs.Taking.{Taken-none, Taken-more, Taken-end, Taken-all}
 use Rattle.ddr_io.proofs.line_reader.LineReader.next_line.Goals as goal
 
 pub returns-then-clean-ge-MAX_LINE-clause-found : goal.returns-then-clean-ge-MAX_LINE-clause-found
@@ -13,5 +15,46 @@ returns-then-clean-ge-MAX_LINE-clause-found g c =
 
 pub loop-at-smaller : goal.loop-at-smaller
 loop-at-smaller g c =
-    let (bs, held, some, rest) = c.in-Bytes.ensures.bytes.bytes in
+    let (bs, held, some, most, rest) = c.in-Bytes.ensures.bytes.bytes in
     omega (arith, ap length held, length-append c.loop-at.self.held bs, c.if-clean-ge-MAX_LINE.false, ap length c.held-clean.ensures)
+
+pub loop-at-init : goal.loop-at-init
+loop-at-init g c = record {
+  going_on = search rules;
+  kept = search rules;
+  taken = Taken-none _ _;
+  unread = search rules;
+  counted = search rules;
+  within = search rules;
+  short = search rules;
+  searched = search rules;
+}
+
+pub loop-at-preserved : goal.loop-at-preserved
+loop-at-preserved g c =
+    let (bs, held, some, most, rest) = c.in-Bytes.ensures.bytes.bytes in
+    let clean : HasNoFeed c.loop-at.self.held = c.in_default.ensures.none_held (omega (arith, c.if-clean-ge-MAX_LINE.false, ap length c.held-clean.ensures)) in record {
+      going_on = search rules;
+      kept = grind (arith, common_steps);
+      taken = Taken-more _ _ _ bs _ _ _ c.loop-at.invariant.taken clean held most rest;
+      unread = search rules;
+      counted = search rules;
+      within = grind (arith, common_steps);
+      short = search rules;
+      searched = grind (arith, common_steps);
+    }
+
+pub returns-in-Some-clause-taken : goal.returns-in-Some-clause-taken
+returns-in-Some-clause-taken g c = λ _ clean. Taken-all _ _ _ _ c.loop-at.invariant.taken clean
+
+pub returns-then-clean-ge-MAX_LINE-clause-taken : goal.returns-then-clean-ge-MAX_LINE-clause-taken
+returns-then-clean-ge-MAX_LINE-clause-taken g c = λ _ clean. Taken-all _ _ _ _ c.loop-at.invariant.taken clean
+
+pub returns-in-End-clause-taken : goal.returns-in-End-clause-taken
+returns-in-End-clause-taken g c = λ _ clean. Taken-end _ _ _ _ _ c.loop-at.invariant.taken c.in-End.ensures.bytes.bytes.2 clean
+
+pub returns-in-End-2-clause-taken : goal.returns-in-End-2-clause-taken
+returns-in-End-2-clause-taken g c = λ _ clean. Taken-end _ _ _ _ _ c.loop-at.invariant.taken c.in-End-2.ensures.bytes.bytes.2 clean
+
+pub returns-in-Failed-clause-taken : goal.returns-in-Failed-clause-taken
+returns-in-Failed-clause-taken g c = λ _ clean. Taken-end _ _ _ _ _ c.loop-at.invariant.taken c.in-Failed.ensures.bytes.bytes.1 clean
