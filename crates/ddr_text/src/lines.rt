@@ -28,7 +28,7 @@ pub enum ReportLine {
     Stat(StatName, u64),
     /// The end, and its clock.
     End(u64),
-    /// The trace line that was refused (0 for the header), and the reason.
+    /// The line that was refused (0 for the opening), and the reason.
     Refused(u64, u8),
 }
 

@@ -7,8 +7,8 @@ use Rattle.speed_bin.specs.Log.{Log}
 use Rattle.speed_bin.specs.Marks.{is_in_range}
 use Rattle.speed_bin.specs.Rules.{broken}
 
--- the command may follow the log at this clock: its parts are in their ranges, the row of an ACT is one of the
--- header's, and all fourteen rules hold
+-- the command may follow the log at this clock: its parts are in their ranges, the row of an ACT and each bank that is named
+-- are the header's, and all fourteen rules hold
 pub record IsLegal (h : Header) (clock : ℕ) (command : Command) (log : Log) : Type 0 where
   pub in_time : clock < 2 ^ 48
   pub in_range : IsInRange command

@@ -31,7 +31,7 @@ pub record IsRight (trace : List TraceLine) (r : Request) (read : LineRead) : Ty
 -- The command log satisfies every rule at each place and at the end, the R and W lines are served in the order of their line and the
 -- F lines carried out in theirs, each R line is answered once, in the order of the trace, with plain memory's bytes
 -- wherever no stored word took two turned bits between rewrites, and up to no place has a row more activations since its
--- last mitigation than ATH + h + 3.
+-- last mitigation than the bound.
 pub record Headline (h : Header) (trace : List TraceLine) (run : Run) (clock : ℕ) : Type 0 where
   pub rules : verdict_at_end h clock (shown_log h trace run) ≡ None
   pub serves : InOrder (shape_of h) trace (shown_log h trace run)

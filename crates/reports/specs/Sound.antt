@@ -63,8 +63,8 @@ pub record IsRun (h : Header) (trace : List TraceLine) (run : Run) (clock : ℕ)
 
 -- ---- Activations
 
--- no row of any bank has more activations since its last mitigation than ATH + h + 3, where h is the greatest number with
--- 4^h <= R * 3^h, for R rows
+-- no row of any bank has more activations since its last mitigation than ATH + h + A - 1, where A is the header's cycle and h
+-- the greatest number with A^h <= R * (A - 1)^h, for R rows
 abbrev pub IsBounded : Header → Log → Type 0
 IsBounded h log = (b row : ℕ) → b < 32 → row < h.settings.rows → acts h b row log ≤ bound h
 

@@ -12,7 +12,7 @@ use Rattle.reports.specs.Report.{report}
 use Rattle.reports.specs.Stats.{stats}
 use Rattle.reports.specs.Sound.{Sound, IsRun}
 
--- the lines of a report behind the line `---`: those of the run, the S lines, the E line, and the X line where there is a
+-- the lines of a report after its separator: those of the run, the S lines, the E line, and the X line where there is a
 -- refusal
 abbrev pub whole : Header → List TraceLine → Run → ℕ → Option Refusal → List ReportLine
 whole h trace run clock refusal = (report h trace run ++ stats h trace run) ++ EndLine clock ∷ refusal_lines refusal

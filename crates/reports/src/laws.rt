@@ -66,7 +66,7 @@ pub fn reads_plain_memory()
     ondie_ecc::laws::one_turn_is_undone();
 }
 
-/// Up to no place of a sound run has a row more activations since its last mitigation than ATH + h + 3.
+/// Up to no place of a sound run has a row more activations since its last mitigation than the bound.
 pub fn bounds_activations()
     ensures bounded { (h : Header) (trace : List TraceLine) (run : Run) → IsAccepted h → Sound h trace run
         → AllBounded h (log_of run) }
@@ -175,7 +175,7 @@ pub fn takes_from_the_held()
     ensures held { (rs : List Request) (step : Step) (run : Run) → held rs (step ∷ run) ≡ held (held rs run) (step ∷ run) }
 {}
 
-/// A finished report of a job within the limits has fewer lines behind the line `---` than the limit on report lines.
+/// A finished report of a job within the limits has fewer lines after its separator than the limit on report lines.
 pub fn stays_below_the_limit()
     ensures lines { (h : Header) (trace : List TraceLine) (run : Run) (clock : ℕ) (refusal : Option Refusal) → IsAccepted h
         → IsRun h trace run clock → length trace ≤ 1048576 → sum (idle_clocks trace) ≤ 4294967296

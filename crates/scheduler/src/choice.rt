@@ -58,9 +58,8 @@ pub(crate) fn command_for(class: Class, waiting: &Waiting) -> Command
     }
 }
 
-/// Policy, step 2. For each bank with a waiting request there is one candidate. If the bank is open and a waiting request
-/// hits its row, it is the RD or WR of the oldest such request. If the bank is open and none hits, it is PREpb. If the
-/// bank is closed, it is the ACT for the oldest waiting request of the bank.
+/// Step 2. What a bank asks for, if some request of it waits: with a hit the RD or WR of its oldest hit; open and without a
+/// hit PREpb; closed the ACT of the row of its oldest waiting request.
 fn wish_of(number: usize, board: &Board, queue: &[Waiting], banks: &Banks) -> Option<Wish>
     requires low { number < 32 }
     requires few { length queue.now ≤ 32 }

@@ -15,8 +15,8 @@ use deadlines::Task;
 use refresh_plan::Due;
 
 impl Controller {
-    /// Step 4. If the alert is raised, and a task is set, or there is no candidate, or e0 is above a + nABO, or an ECS is due,
-    /// or a refresh is due at e0, or an RFM is wanted, then the task becomes RFM of all banks.
+    /// Step 4, back-off. Under a raised alert any one of six reasons is enough for RFM of all banks to become the task: a task
+    /// is set already; there is no candidate; e0 is above a + nABO; an ECS is due; a refresh is due at e0; an RFM is wanted.
     fn must_back_off(&self, choice: Option<Candidate>, soonest: Clock) -> bool
         requires small { soonest < 2 ^ 48 }
         requires awake { (h : AnyHeader) × (offered : List AnyRequest) × (idle : ℕ) × (log : List Step) × IsAwake self.now h offered idle log }
@@ -44,9 +44,9 @@ impl Controller {
         self.ledger.raa.wanted().is_some()
     }
 
-    /// Step 5. If no task is set: if an ECS is due, the task is ECS; else if a refresh is due at e0 (a debt of two
-    /// intervals), the task is that refresh, and `now` becomes the greater of `now` and the least clock at which it is due;
-    /// else if an RFM is wanted, the task is RFM of the least bank address with a bank at RAAIMT.
+    /// Step 5. Where no task is set, the first of these sets one: an ECS that is due; a refresh that is due at e0, which is at a
+    /// debt of two intervals, and where the least clock at which it is due is above `now`, `now` becomes that clock; where an
+    /// RFM is wanted, RFM of a bank address, the least one with a bank at RAAIMT.
     pub(crate) fn errand_at(&self, choice: Option<Candidate>, soonest: Clock) -> Option<Errand>
         requires small { soonest < 2 ^ 48 }
         requires awake { (h : AnyHeader) × (offered : List AnyRequest) × (idle : ℕ) × (log : List Step) × IsAwake self.now h offered idle log }
@@ -89,7 +89,7 @@ fn refresh_of(due: Due) -> Task
     }
 }
 
-/// Step 3. e0 is the least e of the candidates; without candidates it is the greater of `now` and the idle target.
+/// Step 3. e0: the least e among the candidates, and where there are none, the greater of `now` and the idle target.
 pub(crate) fn soonest_of(choice: Option<Candidate>, from: Clock, until: Clock) -> Clock
     ensures { result ≡ soonest_in choice from until }
 {

@@ -67,7 +67,7 @@ impl Controller {
         }
     }
 
-    /// Step 1. While fewer than eight register writes were issued, the next one is issued at its e.
+    /// Step 1. As long as not all eight register writes were issued, the next of them is issued at its e.
     fn write_register(&mut self) -> Turn
         requires bound { self.old.ledger.from < 2 ^ 47 }
         requires starting { self.old.ledger.written < 8 }
@@ -83,10 +83,10 @@ impl Controller {
         self.issue_soonest(command, None)
     }
 
-    /// Step 6. If a task is set, one command is issued, at its e, by the first of these cases that holds. A bank that the task
-    /// covers is owed: each such bank offers the RD or WR of its oldest hit, and the one with the least e is issued, among
-    /// equals that of the oldest request. A bank that the task covers is open: PREab for a task that covers all banks, and
-    /// otherwise PREsb of the task's address. Neither holds: the task's command, and the task is dropped.
+    /// Step 6. Where a task is set, one command is issued at its e; the first of these cases that applies says which. The task
+    /// covers an owed bank: each owed bank that it covers offers the RD or WR of its oldest hit, and of these the one with the
+    /// least e comes, where several share it the one whose request is oldest. The task covers an open bank: PREab for a task
+    /// that covers all banks, else PREsb of the task's address. Otherwise: the task's own command, and no task is set any more.
     fn serve_task(&mut self, errand: Errand) -> Turn
         requires bound { self.old.ledger.from < 2 ^ 47 }
         requires serving { (h : AnyHeader) × (offered : List AnyRequest) × (idle : ℕ) × (log : List Step) × IsServing self.old h offered idle log errand }
@@ -109,8 +109,9 @@ impl Controller {
         self.issue_soonest(command, None)
     }
 
-    /// Step 7. If no task is set and there are candidates, the one with the least e is issued; among equals RD and WR come
-    /// before ACT, ACT before PREpb, then the oldest request. The request of a PREpb is the oldest of its bank.
+    /// Step 7. Where no task is set and there is a candidate, the candidate with the least e is issued at that clock. Where
+    /// several share it, an RD or WR is taken before an ACT and an ACT before a PREpb, and among the same kind the one whose
+    /// request is oldest (for a PREpb the oldest request of its bank).
     fn issue_candidate(&mut self, candidate: &Candidate, task: Option<Task>) -> Turn
         requires ready { (from : ℕ) × (until : ℕ) × (finished : Bool) × (h : AnyHeader) × (offered : List AnyRequest) × (idle : ℕ) × (log : List Step) × IsReadyFor self.old from until finished h offered idle log candidate.now task }
         ensures after { (from until : ℕ) (finished : Bool) (h : AnyHeader) (offered : List AnyRequest) (idle : ℕ) (log : List Step) → IsReadyFor self.old from until finished h offered idle log candidate.now task
@@ -131,8 +132,8 @@ impl Controller {
         }
     }
 
-    /// Step 8. Otherwise `now` becomes e0. If no end was announced the answer is Idle. If a bank is open, PREab is issued at
-    /// its e. Else the answer is Done.
+    /// Step 8. Where there is neither a task nor a candidate, `now` becomes e0. As long as the end was not announced, the answer
+    /// is Idle. After that it is a PREab at its e, as long as a bank is open, and at last Done.
     fn rest(&mut self) -> Turn
         requires bound { self.old.ledger.from < 2 ^ 47 }
         requires resting { (h : AnyHeader) × (offered : List AnyRequest) × (idle : ℕ) × (log : List Step) × IsResting self.old h offered idle log }

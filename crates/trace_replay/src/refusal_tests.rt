@@ -9,7 +9,7 @@ use std::test::Fail;
 const HEADER: &str =
     "format = 1\nbin = \"tiny\"\nrows = 16\nath = 5\neth = 3\nraaimt = 8\nraammt = 16\nrefresh = \"all\"\necs_every = 0\n";
 
-// What stands behind the lines of the header, before the line `---`, and the reason.
+// What stands after the lines of the header and before the separator, and the reason.
 const MORE: [(&str, u8); 33] = [
     ("[", 11),
     ("rows = ", 11),
