@@ -5,3 +5,6 @@ pub mod RealSource
 pub mod RealSink
 pub mod Line
 pub mod Reading
+pub mod Calls
+pub mod MemorySource
+pub mod MemorySink
