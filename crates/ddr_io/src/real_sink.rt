@@ -1,13 +1,17 @@
 //! A sink into a writer of the system: the trusted edge.
-ghost use Rattle.std.specs.Prelude.{◌≡◌, ◌≢◌, ◌<◌, ◌≤◌, length};
+ghost use Rattle.std.specs.Prelude.{◌≡◌, ◌≢◌, ◌<◌, ◌≤◌, IfErr, length};
+ghost use Rattle.std.specs.Io.{WritesAtMost};
+ghost use Rattle.std.specs.Io.KnownBytes.{WriteAppends};
+ghost use Rattle.std.specs.IoError.{error_kind};
 ghost use Rattle.ddr_io.specs.Faults.{Rose};
 ghost use Rattle.ddr_io.specs.Sink.{TakesAtMost, Takes, CountsWrite};
 
 use crate::{Put, Sink};
-use std::io::Write;
+use std::io;
+use std::io::{ErrorKind, Write};
 
 /// A sink into a writer. Each error of the writer is one fault, and so is each write that took
-/// no byte.
+/// no byte. A write that a signal interrupted is tried again, and is no fault.
 #[derive(Drop)]
 pub struct RealSink<W: Write> {
     writer: W,
@@ -49,7 +53,7 @@ impl<W: Write> Sink for RealSink<W> {
             Rose (write_faults self.old) (write_faults self.new) }
         ensures kept { result ≢ Put.Failed → write_faults self.new ≡ write_faults self.old }
     {
-        match self.writer.write(piece) {
+        match write_uninterrupted(&mut self.writer, piece) {
             Ok(0) | Err(_) => {
                 self.faults = self.faults.saturating_add(1);
                 Put::Failed
@@ -57,4 +61,24 @@ impl<W: Write> Sink for RealSink<W> {
             Ok(count) => Put::Took(count),
         }
     }
+}
+
+// One write, tried again where a signal interrupted it. A call has to end, so it gives up after
+// 2^64 - 1 tries, which no run of a machine reaches.
+fn write_uninterrupted<W: Write>(writer: &mut W, piece: &[u8]) -> io::Result<usize>
+    ensures bound { WritesAtMost result piece.now }
+    ensures bytes { WriteAppends (W.contents writer.old) (W.contents writer.new) result piece.now }
+    ensures retried { IfErr result (λ e. error_kind e ≢ ErrorKind.Interrupted) }
+{
+    'tries: for _ in 0..u64::MAX {
+        match writer.write(piece) {
+            Ok(count) => return Ok(count),
+            Err(error) => {
+                if error.kind() != ErrorKind::Interrupted {
+                    return Err(error);
+                }
+            }
+        }
+    }
+    Err(ErrorKind::TimedOut.into())
 }

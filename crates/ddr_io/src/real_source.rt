@@ -1,12 +1,17 @@
 //! A source over a reader of the system: the trusted edge.
-ghost use Rattle.std.specs.Prelude.{◌≡◌, ◌≢◌, ◌<◌, ◌≤◌, length};
+ghost use Rattle.std.specs.Prelude.{◌≡◌, ◌≢◌, ◌<◌, ◌≤◌, IfErr, length};
+ghost use Rattle.std.specs.Io.{ReadsAtMost};
+ghost use Rattle.std.specs.Io.KnownBytes.{ReadConsumes};
+ghost use Rattle.std.specs.IoError.{error_kind};
 ghost use Rattle.ddr_io.specs.Faults.{Rose};
 ghost use Rattle.ddr_io.specs.Source.{GivesAtMost, Gives, CountsRead};
 
 use crate::{Got, Source};
-use std::io::Read;
+use std::io;
+use std::io::{ErrorKind, Read};
 
-/// A source over a reader. Each error of the reader is one fault.
+/// A source over a reader. Each error of the reader is one fault, but a read that a signal
+/// interrupted is tried again, and is none.
 #[derive(Drop)]
 pub struct RealSource<R: Read> {
     reader: R,
@@ -47,7 +52,7 @@ impl<R: Read> Source for RealSource<R> {
             Rose (read_faults self.old) (read_faults self.new) }
         ensures kept { result ≢ Got.Failed → read_faults self.new ≡ read_faults self.old }
     {
-        match self.reader.read(buf) {
+        match read_uninterrupted(&mut self.reader, buf) {
             Ok(0) => Got::End,
             Ok(count) => Got::Bytes(count),
             Err(_) => {
@@ -56,4 +61,24 @@ impl<R: Read> Source for RealSource<R> {
             }
         }
     }
+}
+
+// One read, tried again where a signal interrupted it. A call has to end, so it gives up after
+// 2^64 - 1 tries, which no run of a machine reaches.
+fn read_uninterrupted<R: Read>(reader: &mut R, buf: &mut [u8]) -> io::Result<usize>
+    ensures bound { ReadsAtMost result buf.new }
+    ensures bytes { ReadConsumes (R.remaining reader.old) (R.remaining reader.new) result buf.new }
+    ensures retried { IfErr result (λ e. error_kind e ≢ ErrorKind.Interrupted) }
+{
+    'tries: for _ in 0..u64::MAX {
+        match reader.read(buf) {
+            Ok(count) => return Ok(count),
+            Err(error) => {
+                if error.kind() != ErrorKind::Interrupted {
+                    return Err(error);
+                }
+            }
+        }
+    }
+    Err(ErrorKind::TimedOut.into())
 }

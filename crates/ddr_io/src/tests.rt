@@ -49,6 +49,44 @@ impl Write for Narrow {
     }
 }
 
+// Is interrupted a few times, and then reads or writes one byte.
+#[derive(Drop)]
+struct Interrupted {
+    times: u32,
+}
+
+impl Interrupted {
+    fn one_byte(&mut self) -> io::Result<usize> {
+        if self.times > 0 {
+            self.times -= 1;
+            return Err(io::ErrorKind::Interrupted.into());
+        }
+        Ok(1)
+    }
+}
+
+impl Read for Interrupted {
+    fn read(&mut self, buf: &mut [u8]) -> io::Result<usize> {
+        if buf.is_empty() {
+            return Ok(0);
+        }
+        self.one_byte()
+    }
+}
+
+impl Write for Interrupted {
+    fn write(&mut self, buf: &[u8]) -> io::Result<usize> {
+        if buf.is_empty() {
+            return Ok(0);
+        }
+        self.one_byte()
+    }
+
+    fn flush(&mut self) -> io::Result<()> {
+        Ok(())
+    }
+}
+
 // Fails at each write.
 #[derive(Drop)]
 struct Broken;
@@ -164,4 +202,12 @@ fn faults_of_a_writer(rt: HostRuntime) {
     assert_eq!(rt; put_all(&mut narrow, b"abc"), Put::Failed);
     let mut broken = RealSink::new(Broken);
     assert_eq!(rt; broken.write(b"abc"), Put::Failed);
+}
+
+#[test]
+fn interrupted_calls_are_tried_again(rt: HostRuntime) {
+    let mut source = RealSource::new(Interrupted { times: 3 });
+    assert_eq!(rt; source.read(&mut [0; 8]), Got::Bytes(1));
+    let mut sink = RealSink::new(Interrupted { times: 3 });
+    assert_eq!(rt; sink.write(b"a"), Put::Took(1));
 }
