@@ -1,5 +1,5 @@
 -- The checks of a header have the numbers 1 to 8.
-use Rattle.std.proofs.Common.{IfOk, ◌≡◌, ℕ, suc, ◌+◌, ◌<◌, ◌≤◌, ◌⊎◌, inl, inr, Bool, true, false, if◌then◌else◌, List, [], ◌∷◌, length, not, ◌&&◌, refl, sym, ◌∙◌, subst, arith, Option, Some, None, Result, Ok, Err}
+use Rattle.std.proofs.Common.{◌≡◌, ℕ, suc, ◌+◌, ◌<◌, ◌≤◌, ◌⊎◌, inl, inr, Bool, true, false, if◌then◌else◌, List, [], ◌∷◌, length, not, ◌&&◌, refl, sym, ◌∙◌, subst, arith, Option, Some, None, Result, Ok, Err}
 use Rattle.std.specs.Str.{is_utf8}
 use Rattle.std.specs.Prelude.{codes, option_and_then}
 use Rattle.speed_bin.specs.Document.{checks_of, failed, checked, with_bin, header_of, header_stated, timing_in, settings_in, text_at}
@@ -9,12 +9,9 @@ use Rattle.speed_bin.specs.Timing.{bin_named}
 use Rattle.speed_bin.specs.declared.fault.HeaderFault.{HeaderFault}
 use Rattle.speed_bin.specs.declared.fault.HeaderFault.TheVariants.{NotToml, Key, Kind, Range, NoBin, Check, OutOfMemory}
 use Rattle.speed_bin.specs.Version.{Figures}
-use Rattle.speed_bin.specs.Header.{IsAccepted}
-use Rattle.ddr_text.specs.declared.opening.Opening.{Opening}
-use Rattle.ddr_text.specs.declared.opening.Opening.TheVariants.{Accepted}
 use Rattle.speed_bin.specs.declared.header.Header.{Header}
 use Rattle.speed_bin.specs.declared.timing.Timing.{Timing}
-use Rattle.ddr_text.specs.Opening.{IsReason, IsAnswer, States}
+use Rattle.ddr_text.specs.Opening.{IsReason}
 
 abbrev IsCheck : ℕ → Type 0
 IsCheck check = (1 ≤ check) × (check ≤ 8)
@@ -70,10 +67,6 @@ reason_of_check version text check is =
 pub stated_ok : (version : Figures) (text : List ℕ) (h : Header) (r : Result Header HeaderFault) → r ≡ Ok h → (r ≡ Err OutOfMemory) ⊎ (r ≡ header_stated version text) → header_stated version text ≡ Ok h
 stated_ok version text h r found (inl is) = absurd (let no : ⊥ = cc in no)
 stated_ok version text h r found (inr is) = sym is ∙ found
-
-pub answered : {E : Type 0} (r : Result Opening E) (h : Header) (text : List ℕ) → IfOk r (λ opening. opening ≡ Accepted h text) → IsAccepted h → States text h → IfOk r IsAnswer
-answered (Ok opening) h text is accepted states = subst IsAnswer (sym is) (accepted, states)
-answered (Err e) h text is accepted states = tt
 
 pub stated : (version : Figures) (text : List ℕ) (check : ℕ) (r : Result Header HeaderFault) → r ≡ Err (Check check) → (r ≡ Err OutOfMemory) ⊎ (r ≡ header_stated version text) → header_stated version text ≡ Err (Check check)
 stated version text check r found (inl is) = absurd (let no : ⊥ = cc in no)

@@ -14,3 +14,4 @@ pub mod CleanParts
 pub mod Reopened
 pub mod Separators
 mod CheckNumbers
+mod Parted

@@ -9,6 +9,8 @@ use Rattle.ddr_text.specs.Opening.{IsReason, Accepts, Refuses, judged, heading_i
 use Rattle.ddr_text.specs.Separator.{Ends, role_of_line}
 use Rattle.ddr_text.specs.declared.opening.Front.{Front}
 use Rattle.ddr_text.specs.declared.opening.Front.TheVariants.{Text, Refused as RefusedFront, Failed as FailedFront}
+use Rattle.ddr_text.specs.declared.opening.Apart.{Apart}
+use Rattle.ddr_text.specs.declared.opening.Apart.TheVariants as apart
 use Rattle.ddr_text.specs.declared.opening.Opening.{Opening}
 use Rattle.ddr_text.specs.declared.opening.Opening.TheVariants.{Accepted, Refused, Failed}
 
@@ -39,7 +41,7 @@ IsFront (Some bytes) new (RefusedFront reason) = heading_in [] (parts_of bytes) 
 IsFront (Some bytes) new FailedFront = ⊤
 
 -- the header that a text states in front of a separator with this version, or the reason of its first fault
-abbrev pub IsJudged : List ℕ → List ℕ → Figures → Opening → Type 0
-IsJudged text separator version (Accepted header same) = (same ≡ text ++ separator) × (header_stated version text ≡ Ok header)
-IsJudged text separator version (Refused reason) = judged text [] (header_stated version text) ≡ Refuses reason
-IsJudged text separator version Failed = ⊥
+abbrev pub IsJudged : List ℕ → List ℕ → Figures → Apart → Type 0
+IsJudged text separator version (apart.Accepted header same own) = (same ≡ text) × (own ≡ separator) × (header_stated version text ≡ Ok header)
+IsJudged text separator version (apart.Refused reason) = judged text [] (header_stated version text) ≡ Refuses reason
+IsJudged text separator version apart.Failed = ⊥

@@ -10,3 +10,4 @@ pub mod Separator
 pub mod Seen
 pub mod Opening
 pub mod Front
+pub mod Apart

@@ -6,12 +6,12 @@ mod fields;
 mod header_text;
 mod lines;
 mod opening;
-mod separator;
 #[cfg(test)]
 mod opening_tests;
 mod report_line;
 #[cfg(test)]
 mod report_line_tests;
+mod separator;
 mod spelling;
 #[cfg(test)]
 mod spelling_tests;
@@ -22,7 +22,7 @@ mod trace_line_tests;
 pub use fields::number_of;
 pub use header_text::HeaderText;
 pub use lines::{LineFault, ReportLine, StatName, TraceLine};
-pub use opening::{Opening, open_job};
+pub use opening::{Apart, Opening, open_apart, open_job};
 pub use report_line::{read_report_line, report_lines};
 pub use spelling::write_report_line;
 pub use trace_line::{read_trace_line, trace_grammar};

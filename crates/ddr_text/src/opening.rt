@@ -1,13 +1,13 @@
 //! Opening a job: reading its header, up to and with the separator.
-ghost use Rattle.std.specs.Prelude.{ℕ, ◌≡◌, ◌+◌, ◌<◌, ◌≤◌, if◌then◌else◌, ◌++◌, List, length, IfOk, OnErr, Ok, Err};
+ghost use Rattle.std.specs.Prelude.{ℕ, ◌≡◌, ◌≢◌, ◌+◌, ◌<◌, ◌≤◌, if◌then◌else◌, ◌++◌, List, length, IfOk, OnErr, Ok, Err};
 ghost use Rattle.std.specs.Io.KnownBytes.{Consumes};
 ghost use Rattle.ddr_io.specs.Faults.{Rose};
 ghost use Rattle.ddr_io.specs.Line.{next_bytes};
 ghost use Rattle.speed_bin.specs.Document.{header_stated};
 ghost use Rattle.ddr_text.specs.Opening.{IsOpening, IsAnswer, judged, with_feed, is_large};
 ghost use Rattle.ddr_text.specs.Separator.{Ends, role_of_line};
+ghost use Rattle.ddr_text.specs.Apart.{IsApart, IsApartAnswer, ApartGoesOn};
 ghost use Rattle.ddr_text.specs.Front.{IsFront, GoesOn, FrontGoesOn, HasReason, IsJudged};
-
 ghost use Rattle.ddr_text.specs.declared.opening.Opening.TheVariants.{Accepted as AcceptedOpening};
 
 use crate::header_text::HeaderText;
@@ -24,6 +24,17 @@ const MOST_BYTES: usize = 65_536;
 pub enum Opening {
     /// This header, with this text.
     Accepted(Header, HeaderText),
+    /// It is refused with this reason: 11 to 17, or 21 to 29.
+    Refused(u8),
+    /// The source had a fault.
+    Failed,
+}
+
+/// How a job begins, with the text of its header and the separator apart.
+#[derive(Drop)]
+pub enum Apart {
+    /// This header, with this text, and the separator with its line feed.
+    Accepted(Header, HeaderText, HeaderText),
     /// It is refused with this reason: 11 to 17, or 21 to 29.
     Refused(u8),
     /// The source had a fault.
@@ -57,14 +68,56 @@ pub fn open_job<S: Source>(
     // Only a fault of the source is told as one.
     ensures failed { result ≡ Ok Opening.Failed → Rose (S.faults source.old) (S.faults source.new) }
     ensures later { S.faults source.old ≤ S.faults source.new }
+    ensures kept { result ≢ Ok Opening.Failed → S.faults source.new ≡ S.faults source.old }
+
+    // Some bytes were taken before memory was wanting.
+    ensures taken { OnErr result ((bytes : List ℕ) × Consumes (next_bytes reader.old.held (S.left source.old)) (next_bytes reader.new.held (S.left source.new)) bytes) }
+{
+    match open_apart(alloc, reader, source)? {
+        Apart::Accepted(header, text, separator) => join(header, text, &separator),
+        Apart::Refused(reason) => Ok(Opening::Refused(reason)),
+        Apart::Failed => Ok(Opening::Failed),
+    }
+}
+
+// The header with its text and its separator as one text.
+fn join(
+    header: Header,
+    mut text: HeaderText,
+    separator: &HeaderText,
+) -> Result<Opening, OutOfMemory>
+    ensures { IfOk result (λ opening. opening ≡ AcceptedOpening header (text ++ separator.now)) }
+{
+    text.push(separator.bytes())?;
+    Ok(Opening::Accepted(header, text))
+}
+
+/// The same as [`open_job`], with the text of the header and its separator apart.
+///
+/// # Errors
+/// Want of memory; then the reader has gone on by some lines.
+pub fn open_apart<S: Source>(
+    alloc: Global,
+    reader: &mut LineReader,
+    source: &mut S,
+) -> Result<Apart, OutOfMemory>
+    requires { reader.old.last ≡ Line.Text }
+    ensures opening { IfOk result (IsApart (next_bytes reader.old.held (S.left source.old)) (next_bytes reader.new.held (S.left source.new))) }
+    ensures answer { IfOk result IsApartAnswer }
+    ensures going_on { IfOk result (ApartGoesOn reader.new.last) }
+
+    // Only a fault of the source is told as one.
+    ensures failed { result ≡ Ok Apart.Failed → Rose (S.faults source.old) (S.faults source.new) }
+    ensures later { S.faults source.old ≤ S.faults source.new }
+    ensures kept { result ≢ Ok Apart.Failed → S.faults source.new ≡ S.faults source.old }
 
     // Some bytes were taken before memory was wanting.
     ensures taken { OnErr result ((bytes : List ℕ) × Consumes (next_bytes reader.old.held (S.left source.old)) (next_bytes reader.new.held (S.left source.new)) bytes) }
 {
     match read_front(alloc, reader, source)? {
         Front::Text(text, separator, version) => judge(alloc, text, separator, version),
-        Front::Refused(reason) => Ok(Opening::Refused(reason)),
-        Front::Failed => Ok(Opening::Failed),
+        Front::Refused(reason) => Ok(Apart::Refused(reason)),
+        Front::Failed => Ok(Apart::Failed),
     }
 }
 
@@ -80,6 +133,7 @@ fn read_front<S: Source>(
     ensures going_on { IfOk result (FrontGoesOn reader.new.last) }
     ensures failed { result ≡ Ok Front.Failed → Rose (S.faults source.old) (S.faults source.new) }
     ensures later { S.faults source.old ≤ S.faults source.new }
+    ensures kept { result ≢ Ok Front.Failed → S.faults source.new ≡ S.faults source.old }
     ensures taken { OnErr result ((bytes : List ℕ) × Consumes (next_bytes reader.old.held (S.left source.old)) (next_bytes reader.new.held (S.left source.new)) bytes) }
 {
     let mut text = HeaderText::new(alloc);
@@ -137,31 +191,19 @@ fn judge(
     text: HeaderText,
     separator: HeaderText,
     version: Version,
-) -> Result<Opening, OutOfMemory>
+) -> Result<Apart, OutOfMemory>
     requires { (line : List ℕ) × (separator ≡ with_feed line) × (role_of_line line ≡ Ends version) }
     ensures judged { IfOk result (IsJudged text separator version) }
-    ensures answer { IfOk result IsAnswer }
+    ensures answer { IfOk result IsApartAnswer }
 {
     match read_header(alloc, text.bytes(), version) {
-        Ok(header) => accept(header, text, &separator),
-        Err(HeaderFault::NotToml) => Ok(Opening::Refused(11)),
-        Err(HeaderFault::Key) => Ok(Opening::Refused(12)),
-        Err(HeaderFault::Kind) => Ok(Opening::Refused(13)),
-        Err(HeaderFault::Range) => Ok(Opening::Refused(14)),
-        Err(HeaderFault::NoBin) => Ok(Opening::Refused(15)),
-        Err(HeaderFault::Check(check)) => Ok(Opening::Refused(20 + check)),
+        Ok(header) => Ok(Apart::Accepted(header, text, separator)),
+        Err(HeaderFault::NotToml) => Ok(Apart::Refused(11)),
+        Err(HeaderFault::Key) => Ok(Apart::Refused(12)),
+        Err(HeaderFault::Kind) => Ok(Apart::Refused(13)),
+        Err(HeaderFault::Range) => Ok(Apart::Refused(14)),
+        Err(HeaderFault::NoBin) => Ok(Apart::Refused(15)),
+        Err(HeaderFault::Check(check)) => Ok(Apart::Refused(20 + check)),
         Err(HeaderFault::OutOfMemory) => Err(OutOfMemory),
     }
-}
-
-// The header with its text and its separator.
-fn accept(
-    header: Header,
-    mut text: HeaderText,
-    separator: &HeaderText,
-) -> Result<Opening, OutOfMemory>
-    ensures { IfOk result (λ opening. opening ≡ AcceptedOpening header (text ++ separator.now)) }
-{
-    text.push(separator.bytes())?;
-    Ok(Opening::Accepted(header, text))
 }

@@ -1,8 +1,16 @@
 use Rattle.std.proofs.Common.{subst}
-use Rattle.ddr_text.specs.Front.{IsFront}
-use Rattle.ddr_text.proofs.OpeningLines.{taken-front}
+use Rattle.ddr_text.specs.Apart.{IsApart, IsApartAnswer}
+use Rattle.ddr_text.proofs.Parted.{joined, joined-answer, taken-apart}
 use Rattle.ddr_text.proofs.opening.open_job.Goals as goal
 
-pub returns-in-Text-clause-taken : goal.returns-in-Text-clause-taken
-returns-in-Text-clause-taken g c =
-    taken-front _ _ c.in-Text.text c.in-Text.separator c.in-Text.version c.judge.result (subst (IsFront _ _) c.in-Text.is c.in_ok-text.ensures.front)
+pub returns-in-Accepted-clause-opening : goal.returns-in-Accepted-clause-opening
+returns-in-Accepted-clause-opening g c =
+    joined _ _ c.in-Accepted.header c.in-Accepted.text c.in-Accepted.separator c.join.result (subst (IsApart _ _) c.in-Accepted.is c.in_ok-text.ensures.opening) c.join.ensures
+
+pub returns-in-Accepted-clause-answer : goal.returns-in-Accepted-clause-answer
+returns-in-Accepted-clause-answer g c =
+    joined-answer c.in-Accepted.header c.in-Accepted.text c.in-Accepted.separator c.join.result (subst IsApartAnswer c.in-Accepted.is c.in_ok-text.ensures.answer) c.join.ensures
+
+pub returns-in-Accepted-clause-taken : goal.returns-in-Accepted-clause-taken
+returns-in-Accepted-clause-taken g c =
+    taken-apart _ _ c.in-Accepted.header c.in-Accepted.text c.in-Accepted.separator c.join.result (subst (IsApart _ _) c.in-Accepted.is c.in_ok-text.ensures.opening)

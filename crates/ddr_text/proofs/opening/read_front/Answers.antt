@@ -58,7 +58,7 @@ loop-reader-preserved g c =
       continues = continues-line _ _ _ c.loop-reader.text line c.push_line-in-Text-role_of.new.self more held.continues next is small;
       few = subst (λ t. length t ≤ 65536) (sym more) (within (c.loop-reader.text ++ with_feed line) small);
       going_on = c.in-Text.ensures.last;
-      later = omega (arith, held.later, c.in-Text.ensures.later);
+      counted = grind (arith, held.counted, c.in-Text.ensures.kept);
     }
 
 pub returns-in-TooLong-clause-front : goal.returns-in-TooLong-clause-front

@@ -12,7 +12,7 @@ invariant-loop-reader g l = record {
   continues : Continues (next_bytes l.initial.reader.held (g.S.Source.left l.initial.source)) l.text (next_bytes l.reader.held (g.S.Source.left l.source));
   few : length l.text ≤ 65536;
   going_on : l.reader.last ≡ Text;
-  later : g.S.Source.faults l.initial.source ≤ g.S.Source.faults l.source;
+  counted : g.S.Source.faults l.source ≡ g.S.Source.faults l.initial.source;
 }
 
 abbrev pub decreases-loop-reader : goal.decreases-loop-reader

@@ -1,0 +1,13 @@
+use Rattle.std.proofs.Common.{subst}
+use Rattle.ddr_text.specs.Front.{IsFront}
+use Rattle.ddr_text.proofs.Parted.{judged-apart}
+use Rattle.ddr_text.proofs.OpeningLines.{taken-front}
+use Rattle.ddr_text.proofs.opening.open_apart.Goals as goal
+
+pub returns-in-Text-clause-opening : goal.returns-in-Text-clause-opening
+returns-in-Text-clause-opening g c =
+    judged-apart _ _ c.in-Text.text c.in-Text.separator c.in-Text.version c.judge.result (subst (IsFront _ _) c.in-Text.is c.in_ok-text.ensures.front) c.judge.ensures.judged
+
+pub returns-in-Text-clause-taken : goal.returns-in-Text-clause-taken
+returns-in-Text-clause-taken g c =
+    taken-front _ _ c.in-Text.text c.in-Text.separator c.in-Text.version c.judge.result (subst (IsFront _ _) c.in-Text.is c.in_ok-text.ensures.front)
