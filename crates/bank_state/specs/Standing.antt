@@ -15,7 +15,7 @@ abbrev pub AllFit : Log → Type 0
 AllFit [] = ⊤
 AllFit (place ∷ log) = AllFit log × Fits place.command log
 
--- the rows of the 32 banks are the open rows of the log
+-- at each of the 32 numbers of banks stands the open row of the log
 pub record Keeps (rows : List (Option ℕ)) (log : Log) : Type 0 where
   pub banks : length rows ≡ 32
   pub open_rows : (b : ℕ) → b < 32 → row_of rows b ≡ open_at b log

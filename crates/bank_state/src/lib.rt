@@ -1,4 +1,4 @@
-//! The open rows of the 32 banks, and which commands fit them.
+//! The open rows of all banks, and which commands fit them.
 #![tactic(auto)]
 
 mod fault;

@@ -15,9 +15,9 @@ use std::marker::Model;
 /// The open rows of the banks of a log.
 #[derive(Drop)]
 pub struct Banks {
-    // by the number of the bank
+    // By the number of the bank. There is room for 8 groups; with 4 the upper half stays closed.
     rows: [Option<Row>; 32],
-    // how many banks are open
+    // How many banks are open.
     opened: u8,
 }
 

@@ -11,7 +11,7 @@ abbrev pub AllAllowed : Header → Log → Type 0
 AllAllowed h [] = ⊤
 AllAllowed h (place ∷ log) = AllAllowed h log × IsTrue (rule_9 h place.command log)
 
--- the thresholds are the header's, and the counts of the 32 banks those of the log
+-- the thresholds are the header's, and at each of the 32 numbers of banks stands the count of the log
 pub record Keeps (it : Held) (h : Header) (log : Log) : Type 0 where
   pub raaimt : it.raaimt ≡ h.settings.raaimt
   pub raammt : it.raammt ≡ h.settings.raammt

@@ -1,4 +1,4 @@
-//! The rolling activation counts of the 32 banks (refresh management).
+//! The rolling activation counts of all banks (refresh management).
 #![tactic(auto)]
 
 mod rolling;

@@ -16,7 +16,7 @@ use std::marker::Model;
 pub struct Raa {
     raaimt: u32,
     raammt: u32,
-    // by the number of the bank
+    // By the number of the bank. There is room for 8 groups; with 4 the upper half stays 0.
     counts: [u32; 32],
 }
 

@@ -11,7 +11,7 @@ is_within (Address own) b = is_at own b
 is_within All b = true
 is_within Nothing b = false
 
--- a bank is below 32, and a bank address below 4
+-- the number of a bank is below 32, with 4 groups too, and a bank address below 4
 abbrev pub IsScope : Scope → Type 0
 IsScope (Bank own) = own < 32
 IsScope (Address own) = own < 4

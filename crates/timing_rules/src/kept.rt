@@ -15,6 +15,7 @@ use command_words::{Bank, BankAddr};
 #[derive(Clone, Copy, Debug, PartialEq, Eq)]
 pub(crate) struct Banked {
     pub(crate) any: Option<Clock>,
+    // There is room for 8 groups; with 4 the upper half of the groups and banks stays empty.
     groups: [Option<Clock>; 8],
     addresses: [Option<Clock>; 4],
     banks: [Option<Clock>; 32],

@@ -1,0 +1,3 @@
+mod AllNumbers
+mod Agreeing
+mod Peaks
