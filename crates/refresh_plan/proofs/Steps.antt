@@ -28,20 +28,20 @@ stands_at_first h = record {
   addresses = refl;
   counts = λ address low. zero_at 4 address;
   scrubbed = refl;
-  allowed = tt;
+  met = tt;
 }
 
 -- the counts after a command are those before it, and the command
-pub stands_after : (it : Held) (counts : List ℕ) (scrubbed : ℕ) (command : Command) → length counts ≡ 4 → ((address : ℕ) → address < 4 → slice_index counts address ≡ after it command address) → scrubbed ≡ it.scrubs + cond (is_scrub command) 1 0 → (clock : ℕ) (h : Header) (log : Log) → StandsFor it h log → IsAllowed h clock command log → StandsFor (record it { refreshes = counts; scrubs = scrubbed }) h (record { clock = clock; command = command } ∷ log)
+pub stands_after : (it : Held) (counts : List ℕ) (scrubbed : ℕ) (command : Command) → length counts ≡ 4 → ((address : ℕ) → address < 4 → slice_index counts address ≡ after it command address) → scrubbed ≡ it.scrubs + cond (is_scrub command) 1 0 → (clock : ℕ) → clock < 2 ^ 48 → (h : Header) (log : Log) → StandsFor it h log → IsAllowed h clock command log → StandsFor (record it { refreshes = counts; scrubs = scrubbed }) h (record { clock = clock; command = command } ∷ log)
 unfolding StandsFor
-stands_after it counts scrubbed command long counted scrubs_is clock h log stands allowed = record {
+stands_after it counts scrubbed command long counted scrubs_is clock small h log stands allowed = record {
   interval = stands.interval;
   mode = stands.mode;
   every = stands.every;
   addresses = long;
   counts = λ address low. counted address low ∙ after_refs it h log clock command address stands low;
   scrubbed = scrubs_is ∙ ap (λ (n : ℕ). n + cond (is_scrub command) 1 0) stands.scrubbed ∙ sym (scrubs-cons (record { clock = clock; command = command }) log);
-  allowed = (stands.allowed, allowed);
+  met = (stands.met, record { small = small; allowed = allowed });
 }
 
 -- ---- Nothing leaves its type

@@ -1,5 +1,5 @@
 -- What a plan says of a log.
-use Rattle.std.specs.Prelude.{◌≡◌, ℕ, ◌<◌, Bool, List, [], ◌∷◌, length, slice_index, IsTrue, ⊤}
+use Rattle.std.specs.Prelude.{◌≡◌, ℕ, ◌<◌, ◌^◌, Bool, List, [], ◌∷◌, length, slice_index, IsTrue, ⊤}
 use Rattle.command_words.specs.declared.command.Command.{Command}
 use Rattle.speed_bin.specs.declared.header.Header.{Header}
 use Rattle.speed_bin.specs.Log.{Log, refs, scrubs}
@@ -16,12 +16,17 @@ pub record IsAllowed (h : Header) (clock : ℕ) (command : Command) (log : Log) 
 abbrev pub refresh_rules : Header → ℕ → Command → Log → List Bool
 refresh_rules h clock command log = rule_6 h clock command log ∷ rule_7 command log ∷ rule_8 h command log ∷ []
 
--- they hold at each place of the log
-abbrev pub AllAllowed : Header → Log → Type 0
-AllAllowed h [] = ⊤
-AllAllowed h (place ∷ log) = AllAllowed h log × IsAllowed h place.clock place.command log
+-- what a command meets that is issued at the clock after the log: the clock is one of the bus, and the rules hold
+pub record IsMet (h : Header) (clock : ℕ) (command : Command) (log : Log) : Type 0 where
+  pub small : clock < 2 ^ 48
+  pub allowed : IsAllowed h clock command log
 
--- the numbers are the header's, and the counts those of the log
+-- each place of the log met it
+abbrev pub AllMet : Header → Log → Type 0
+AllMet h [] = ⊤
+AllMet h (place ∷ log) = AllMet h log × IsMet h place.clock place.command log
+
+-- the numbers are the header's, the counts those of the log, and each place of it met what is asked of a command
 pub record Keeps (it : Held) (h : Header) (log : Log) : Type 0 where
   pub interval : it.interval ≡ h.timing.nrefi
   pub mode : it.mode ≡ h.settings.refresh
@@ -29,7 +34,7 @@ pub record Keeps (it : Held) (h : Header) (log : Log) : Type 0 where
   pub addresses : length it.refreshes ≡ 4
   pub counts : (address : ℕ) → address < 4 → slice_index it.refreshes address ≡ refs address log
   pub scrubbed : it.scrubs ≡ scrubs log
-  pub allowed : AllAllowed h log
+  pub met : AllMet h log
 
 -- the plan stands for the log; how is its own affair
 unfoldable pub StandsFor : Held → Header → Log → Type 0

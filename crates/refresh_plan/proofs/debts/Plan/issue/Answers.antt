@@ -10,4 +10,4 @@ invariant_of-self c =
 
 pub returns : goal.returns
 returns c = λ h log stands allowed.
-    rw (← c.self.view_is) at (stands_after c.args.self.now c.refreshes_after-counts.result c.scrubs_after-scrubs.result c.args.command.now (omega arith) c.refreshes_after-counts.ensures c.scrubs_after-scrubs.ensures c.args.clock h log stands allowed)
+    rw (← c.self.view_is) at (stands_after c.args.self.now c.refreshes_after-counts.result c.scrubs_after-scrubs.result c.args.command.now (omega arith) c.refreshes_after-counts.ensures c.scrubs_after-scrubs.ensures c.args.clock c.requires.clock h log stands allowed)
