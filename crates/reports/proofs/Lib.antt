@@ -29,3 +29,4 @@ pub mod Counted
 pub mod Controlled
 pub mod Literal
 pub mod Inside
+mod TameWording

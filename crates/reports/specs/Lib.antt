@@ -6,6 +6,7 @@ pub mod Barriers
 pub mod Offered
 pub mod Delivered
 pub mod Tame
+pub mod TameWording
 pub mod Readings
 pub mod Report
 pub mod Stats

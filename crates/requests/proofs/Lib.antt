@@ -11,4 +11,6 @@ pub mod Serving
 pub mod Served
 pub mod Kept
 pub mod Unserved
+mod PageWording
+mod OpenBanks
 mod Examples

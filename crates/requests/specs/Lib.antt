@@ -5,3 +5,4 @@ pub mod Window
 pub mod Owed
 pub mod Page
 pub mod Requested
+pub mod PageWording
