@@ -22,7 +22,11 @@ fn plan(bin: &str, refresh: RefreshMode, ecs_every: u32) -> Option<Plan>
         refresh,
         ecs_every,
     };
-    Some(Plan::new(&Header { timing, settings, version: Version::plain() }))
+    Some(Plan::new(&Header {
+        timing,
+        settings,
+        version: Version::plain(),
+    }))
 }
 
 fn ref_same(address: u8) -> Option<Command> {

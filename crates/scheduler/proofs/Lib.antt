@@ -11,6 +11,7 @@ mod Resting
 mod Starting
 mod Deciding
 mod Turning
+mod Pressing
 mod Offered
 mod Unraised
 mod Taken

@@ -16,7 +16,7 @@ use Rattle.requests.specs.declared.request.Request.{Request}
 use Rattle.requests.specs.declared.waiting.Waiting.{Waiting}
 use Rattle.deadlines.specs.Standing.{Keeps}
 use Rattle.deadlines.specs.declared.task.Task.{Task}
-use Rattle.scheduler.specs.Controller.{Holds, IsSeen, IsTasked, Issues, StandsFor, banks_of, excused}
+use Rattle.scheduler.specs.Controller.{Holds, IsSeen, IsTasked, Issues, StandsFor, banks_of, excused, from_of}
 use Rattle.scheduler.specs.Laws.{Laws, Kept}
 use Rattle.scheduler.specs.Ledger.{StandsFor as LedgerStandsFor, Suits, MayIssue}
 use Rattle.scheduler.specs.Choice.{command_for}
@@ -127,13 +127,14 @@ holds_after laws c from until finished h offered idle log clock command id next 
     }
 
 pub issues_of : (laws : Laws) (c new : Controller) (from until : ℕ) (finished : Bool) (h : Header) (offered : List Request) (idle : ℕ) (log : List Step) (clock : ℕ) (command : Command) (id : Option ℕ) (next : Option Task) (queue : List Waiting) (q : ArrayVec Waiting) → IsReady c from until finished h offered idle log clock command id next queue → LedgerStandsFor new.ledger h (record { clock = clock; command = command } ∷ places log) → new.ledger.from ≡ clock + 1 → new.alert ≡ alert_left command c.alert → q.items ≡ queue → new ≡ record c { ledger = new.ledger; alert = new.alert; queue = q; task = next } → Issues clock command id from until finished h new offered idle log
-unfolding StandsFor
+unfolding StandsFor from_of
 issues_of laws c new from until finished h offered idle log clock command id next queue q r stands at left items same = record {
   right = right_of laws c from until finished h offered idle log clock command id next queue r;
   chosen = subst (λ ws. IsChosen h ws (places log) clock command id) r.holds.requested.waits r.chosen;
   late = let waited = r.waited in let late = r.late in omega (arith, waited, late);
   prompt = r.prompt;
   busy = r.busy;
+  now = at;
   stands = subst (λ (x : Controller). Holds h x offered idle (record { issued = record { clock = clock; command = command }; id = id } ∷ log)) (sym same) (holds_after laws c from until finished h offered idle log clock command id next queue new.ledger new.alert q r stands at left items);
 }
 

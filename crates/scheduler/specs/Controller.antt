@@ -93,6 +93,10 @@ from_of c = c.ledger.from
 unfoldable pub until_of : Controller → ℕ
 until_of c = c.until
 
+-- the task that is set
+unfoldable pub task_of : Controller → Option Task
+task_of c = c.task
+
 -- no more requests come
 unfoldable pub finished_of : Controller → Bool
 finished_of c = c.finished
@@ -127,6 +131,8 @@ pub record Issues (clock : ℕ) (command : Command) (id : Option ℕ) (from unti
   pub prompt : IsPrompt h from (places log) clock command
   -- where nothing waits and nothing is due, it is the last precharge
   pub busy : AtRest h (max from until) offered log → (finished ≡ true) × (all_closed (places log) ≡ false)
+  -- the next command comes one clock later at the least
+  pub now : from_of new ≡ clock + 1
   pub stands : StandsFor h new offered idle (record { issued = record { clock = clock; command = command }; id = id } ∷ log)
 
 -- a turn that issued nothing

@@ -3,6 +3,7 @@ pub mod Choice
 pub mod Ledger
 pub mod Task
 pub mod Controller
+pub mod Backoff
 pub mod Steps
 pub mod Laws
 pub mod Testing

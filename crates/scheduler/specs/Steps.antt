@@ -127,6 +127,15 @@ pub record Waits (c : Controller) (h : Header) (log : Log) (choice : Option Cand
   pub no_refresh : IsNothingDue h soonest log
   pub no_management : is_wanted h RfmAb log ≡ false
 
+-- a reason to answer the alert that was raised at this clock
+pub data Urges (c : Controller) (h : Header) (log : Log) (choice : Option Candidate) (soonest raised : ℕ) : Type 0 where
+  UrgesTask : IsSome c.task → Urges c h log choice soonest raised
+  UrgesAlone : choice ≡ None → Urges c h log choice soonest raised
+  UrgesWindow : raised + h.timing.nabo < soonest → Urges c h log choice soonest raised
+  UrgesScrub : IsEcsDue h log → Urges c h log choice soonest raised
+  UrgesRefresh : (IsNothingDue h soonest log → ⊥) → Urges c h log choice soonest raised
+  UrgesRfm : IsTrue (is_wanted h RfmAb log) → Urges c h log choice soonest raised
+
 -- no alert has to be answered
 abbrev pub IsPatient : Controller → Header → Log → Option Candidate → ℕ → Type 0
 IsPatient c h log choice soonest = (raised : ℕ) → alert h log ≡ Some raised → Waits c h log choice soonest raised

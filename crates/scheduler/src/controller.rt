@@ -40,9 +40,9 @@ pub struct Controller {
     pub(crate) task: Option<Task>,
 }
 
-#[tactic(auto, unfolding(crate::specs::Controller::StandsFor, crate::specs::Controller::from_of, crate::specs::Controller::until_of, crate::specs::Controller::finished_of))]
+#[tactic(auto, unfolding(crate::specs::Controller::StandsFor, crate::specs::Controller::from_of, crate::specs::Controller::until_of, crate::specs::Controller::finished_of, crate::specs::Controller::task_of))]
 impl Controller {
-    ghost use Rattle.scheduler.specs.Controller.{StandsFor, from_of, until_of, finished_of};
+    ghost use Rattle.scheduler.specs.Controller.{StandsFor, from_of, until_of, finished_of, task_of};
 
     /// A controller to which nothing was offered and that issued nothing, at clock 0.
     pub fn new(alloc: Global, header: &Header) -> Result<Controller, OutOfMemory>
@@ -51,6 +51,7 @@ impl Controller {
         ensures from { IfOk result (λ c. from_of c ≡ 0) }
         ensures until { IfOk result (λ c. until_of c ≡ 0) }
         ensures finished { IfOk result (λ c. finished_of c ≡ false) }
+        ensures task { IfOk result (λ c. task_of c ≡ None) }
     {
         start();
         starts();
@@ -84,6 +85,7 @@ impl Controller {
         ensures from { from_of self.new ≡ from_of self.old }
         ensures until { until_of self.new ≡ until_of self.old }
         ensures finished { finished_of self.new ≡ finished_of self.old }
+        ensures task { task_of self.new ≡ task_of self.old }
     {
         offered_one();
         after_offer();
@@ -130,6 +132,7 @@ impl Controller {
         ensures until { until_of self.new ≡ from_of self.old + clocks }
         ensures from { from_of self.new ≡ from_of self.old }
         ensures finished { finished_of self.new ≡ finished_of self.old }
+        ensures task { task_of self.new ≡ task_of self.old }
     {
         idle_line();
         self.until = self.ledger.from + clocks;
@@ -140,6 +143,7 @@ impl Controller {
         ensures stands { (h : AnyHeader) (offered : List AnyRequest) (idle : ℕ) (log : List Step) → StandsFor h self.old offered idle log
             → StandsFor h self.new offered idle log }
         ensures finished { finished_of self.new ≡ true }
+        ensures task { task_of self.new ≡ task_of self.old }
         ensures from { from_of self.new ≡ from_of self.old }
         ensures until { until_of self.new ≡ until_of self.old }
     {

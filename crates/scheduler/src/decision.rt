@@ -5,7 +5,7 @@ ghost use Rattle.speed_bin.specs.declared.header.Header.{Header as AnyHeader};
 ghost use Rattle.requests.specs.Queue.{Step, places};
 ghost use Rattle.requests.specs.declared.request.Request.{Request as AnyRequest};
 ghost use Rattle.deadlines.specs.Turns.{LooksTo};
-ghost use Rattle.scheduler.specs.Steps.{IsAwake, IsFree, IsErrand, IsPatient, refresh_task, soonest_in};
+ghost use Rattle.scheduler.specs.Steps.{IsAwake, IsFree, IsErrand, IsPatient, Urges, refresh_task, soonest_in};
 
 use crate::Clock;
 use crate::choice::Candidate;
@@ -21,6 +21,7 @@ impl Controller {
         requires small { soonest < 2 ^ 48 }
         requires awake { (h : AnyHeader) × (offered : List AnyRequest) × (idle : ℕ) × (log : List Step) × IsAwake self.now h offered idle log }
         ensures yes { (h : AnyHeader) (offered : List AnyRequest) (idle : ℕ) (log : List Step) → IsAwake self.now h offered idle log → result ≡ true → IsSome (alert_of h (places log)) }
+        ensures urged { (h : AnyHeader) (offered : List AnyRequest) (idle : ℕ) (log : List Step) (raised : ℕ) → IsAwake self.now h offered idle log → result ≡ true → alert_of h (places log) ≡ Some raised → Urges self.now h (places log) choice soonest raised }
         ensures no { (h : AnyHeader) (offered : List AnyRequest) (idle : ℕ) (log : List Step) → IsAwake self.now h offered idle log → result ≡ false → IsPatient self.now h (places log) choice soonest }
     {
         let Some(last) = self.alert.last_activate(&self.header.timing) else {
@@ -54,6 +55,8 @@ impl Controller {
         ensures some { IfSome result (λ errand. (h : AnyHeader) (offered : List AnyRequest) (idle : ℕ) (log : List Step) → IsAwake self.now h offered idle log
             → LooksTo h (places log) self.now.ledger.from self.now.until soonest → self.now.ledger.from ≤ soonest
             → IsErrand self.now h (places log) soonest errand) }
+        ensures backs_off { IfSome result (λ errand. (h : AnyHeader) (offered : List AnyRequest) (idle : ℕ) (log : List Step) (raised : ℕ) → IsAwake self.now h offered idle log → alert_of h (places log) ≡ Some raised
+            → (errand.task ≡ Task.RfmAll) × Urges self.now h (places log) choice soonest raised) }
     {
         let start = self.ledger.from;
         if self.must_back_off(choice, soonest) {

@@ -6,10 +6,11 @@ ghost use Rattle.speed_bin.specs.Log.{Log};
 ghost use Rattle.speed_bin.specs.declared.header.Header.{Header as AnyHeader};
 ghost use Rattle.command_words.specs.declared.command.Command.TheVariants.{Mrw as AnyMrw, PreAb as AnyPreAb};
 ghost use Rattle.command_words.specs.declared.command.Mrw.{Mrw as Write};
-ghost use Rattle.requests.specs.Queue.{Step, places};
+ghost use Rattle.requests.specs.Queue.{Step, places, waiting};
 ghost use Rattle.requests.specs.declared.request.Request.{Request as AnyRequest};
 ghost use Rattle.scheduler.specs.declared.choice.Class.TheVariants.{Column};
-ghost use Rattle.scheduler.specs.Controller.{Holds, StandsFor, After, AtRest, from_of, until_of, finished_of};
+ghost use Rattle.scheduler.specs.Controller.{Holds, StandsFor, After, AtRest, from_of, until_of, finished_of, task_of};
+ghost use Rattle.scheduler.specs.Backoff.{AnswersAlert, IsPressed, issues_rfm_all};
 ghost use Rattle.scheduler.specs.Ledger.{StandsFor as LedgerStandsFor, MayIssue, Suits};
 ghost use Rattle.scheduler.specs.Steps.{IsAwake, IsReady, IsReadySoon, IsReadyFor, IsErrand, IsServing, IsResting, alert_left};
 ghost use Rattle.scheduler.specs.Laws.{Laws, DeadlineLaws, RequestLaws};
@@ -25,7 +26,7 @@ use command_words::{Command, Mrw};
 use deadlines::Task;
 use requests::RequestId;
 
-#[tactic(auto, unfolding(crate::specs::Controller::StandsFor, crate::specs::Controller::from_of, crate::specs::Controller::until_of, crate::specs::Controller::finished_of))]
+#[tactic(auto, unfolding(crate::specs::Controller::StandsFor, crate::specs::Controller::from_of, crate::specs::Controller::until_of, crate::specs::Controller::finished_of, crate::specs::Controller::task_of))]
 impl Controller {
     /// One turn. `alert` says whether the device's alert is raised; `now` is below 2^47.
     pub fn next(&mut self, alert: bool) -> Turn
@@ -33,6 +34,12 @@ impl Controller {
         requires stands { (h : AnyHeader) × (offered : List AnyRequest) × (idle : ℕ) × (log : List Step) × (StandsFor h self.old offered idle log) × (alert ≡ is_some (alert_of h (places log))) }
         ensures after { (h : AnyHeader) (offered : List AnyRequest) (idle : ℕ) (log : List Step) → StandsFor h self.old offered idle log → alert ≡ is_some (alert_of h (places log))
             → After result (from_of self.old) (until_of self.old) (finished_of self.old) h self.new offered idle log }
+
+        // Under a raised alert RFM of all banks is served exactly where the policy has a reason to stop serving requests.
+        ensures backs_off { (h : AnyHeader) (offered : List AnyRequest) (idle : ℕ) (log : List Step) (raised : ℕ) → StandsFor h self.old offered idle log → alert ≡ is_some (alert_of h (places log))
+            → 8 ≤ length log → alert_of h (places log) ≡ Some raised
+            → (AnswersAlert result (task_of self.new) ↔ IsPressed h (waiting h offered log) (places log) (from_of self.old) (task_of self.old) raised) }
+
         ensures bound { from_of self.new ≤ max (from_of self.old) (until_of self.old) + 2 ^ 15 }
         ensures until { until_of self.new ≡ until_of self.old }
         ensures finished { finished_of self.new ≡ finished_of self.old }
@@ -92,6 +99,7 @@ impl Controller {
         requires serving { (h : AnyHeader) × (offered : List AnyRequest) × (idle : ℕ) × (log : List Step) × IsServing self.old h offered idle log errand }
         ensures after { (h : AnyHeader) (offered : List AnyRequest) (idle : ℕ) (log : List Step) → IsServing self.old h offered idle log errand
             → After result self.old.ledger.from self.old.until self.old.finished h self.new offered idle log }
+        ensures backs_off { errand.task ≡ Task.RfmAll → AnswersAlert result self.new.task }
         ensures bound { self.new.ledger.from ≤ max self.old.ledger.from self.old.until + 2 ^ 15 }
         ensures until { self.new.until ≡ self.old.until }
         ensures finished { self.new.finished ≡ self.old.finished }
@@ -117,6 +125,8 @@ impl Controller {
         ensures after { (from until : ℕ) (finished : Bool) (h : AnyHeader) (offered : List AnyRequest) (idle : ℕ) (log : List Step) → IsReadyFor self.old from until finished h offered idle log candidate.now task
             → After result from until finished h self.new offered idle log }
         ensures from { self.new.ledger.from ≡ candidate.now.clock + 1 }
+        ensures task { self.new.task ≡ task }
+        ensures serves { issues_rfm_all result ≡ false }
         ensures until { self.new.until ≡ self.old.until }
         ensures finished { self.new.finished ≡ self.old.finished }
     {
@@ -162,6 +172,8 @@ impl Controller {
             → After result from until finished h self.new offered idle log }
         ensures bound { (from until : ℕ) (finished : Bool) (h : AnyHeader) (offered : List AnyRequest) (idle : ℕ) (log : List Step) → IsReadySoon self.old from until finished h offered idle log command task
             → self.new.ledger.from ≤ max from until + 2 ^ 15 }
+        ensures task { self.new.task ≡ task }
+        ensures command { issues_rfm_all result ≡ is_rfm_all command }
         ensures until { self.new.until ≡ self.old.until }
         ensures finished { self.new.finished ≡ self.old.finished }
     {
