@@ -65,7 +65,7 @@ pub joined-answer : {E : Type 0} (header : Header) (text separator : List ℕ) (
     → IfOk r (λ opening. opening ≡ Accepted header (text ++ separator)) → IfOk r IsAnswer
 joined-answer header text separator (Err e) known is = tt
 joined-answer header text separator (Ok opening) (accepted, heading, parts, ends) is =
-    subst IsAnswer (sym is) (accepted, heading, one-text heading header text separator parts, ends, parts.stated)
+    subst IsAnswer (sym is) (accepted, (heading, one-text heading header text separator parts, ends, parts.stated))
 
 -- the bytes that were taken before memory was wanting
 pub taken-apart : {T E : Type 0} (old new : Option (List ℕ)) (header : Header) (text separator : List ℕ) (r : Result T E) → IsApart old new (apart.Accepted header text separator) → OnErr r ((bytes : List ℕ) × Consumes old new bytes)
