@@ -9,7 +9,7 @@ use Rattle.command_words.specs.declared.command.Command.{Command}
 use Rattle.command_words.specs.declared.command.Command.TheVariants.{Act, Rd, Wr, PrePb, PreSb, PreAb, RefAb, RefSb, RfmAb, RfmSb, Mrw, Ecs, Nop}
 use Rattle.ddr_text.specs.AcceptedReport.{IsReportLine}
 use Rattle.ddr_text.specs.Ranges.{IsWithin}
-use Rattle.ddr_text.specs.ReportGrammar.{has_row}
+use Rattle.ddr_text.specs.ReportGrammar.{has_place}
 use Rattle.ddr_text.specs.declared.lines.ReportLine.{ReportLine}
 use Rattle.ddr_text.specs.declared.lines.TraceLine.{TraceLine}
 use Rattle.ddr_text.specs.declared.lines.TraceLine.TheVariants.{Read, Write, Flip, Idle}
@@ -95,7 +95,7 @@ in-range h (Mrw write) a w = w
 in-range h Ecs a w = tt
 in-range h Nop a w = tt
 
-row-within : (g : Shape) (command : Command) → IsWithin g command → has_row g command ≡ true
+row-within : (g : Shape) (command : Command) → IsWithin g command → has_place g command ≡ true
 row-within g (Act bank row) w = joined (nat_lt row g.rows) (nat_lt bank.group g.groups) (lt-ltb row g.rows w.1) (lt-ltb bank.group g.groups w.0.group)
 row-within g (Rd bank column) w = lt-ltb bank.group g.groups w.0.group
 row-within g (Wr bank column) w = lt-ltb bank.group g.groups w.0.group

@@ -90,7 +90,7 @@ found_separator (Some bytes) (Some left) (Some rest) text line separator version
       whole,
       line_read bytes left rest text line continues next.1 next.0 next.2 ∙ ap (λ k. after_line text line k (heading_in (text ++ with_feed line) (parts_of rest))) is,
       subst (λ s. Some rest ≡ Some (drop (length (text ++ s)) bytes)) (sym whole)
-      (ap Some (sym (ap (drop (length (text ++ with_feed line))) all ∙ drop_at (text ++ with_feed line) rest (length (text ++ with_feed line)) refl))),
+          (ap Some (sym (ap (drop (length (text ++ with_feed line))) all ∙ drop_at (text ++ with_feed line) rest (length (text ++ with_feed line)) refl))),
     )
 
 -- the next line begins as a separator and is none

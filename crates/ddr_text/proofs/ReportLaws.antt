@@ -21,7 +21,7 @@ use Rattle.ddr_text.specs.declared.lines.LineFault.{LineFault}
 use Rattle.ddr_text.specs.declared.lines.LineFault.TheVariants.{Range}
 use Rattle.ddr_text.specs.Spelling.{report_text, spaced_second, state_name, stat_name}
 use Rattle.ddr_text.specs.Grammar.{fields_of, number_of, below, one_field, two_fields, four_fields}
-use Rattle.ddr_text.specs.ReportGrammar.{clock_of, command_fields, command_of, end_line_of, flipped_line_of, has_row, in_rows, issued_line_of, lower_bytes_of, optional_field, or_word, refused_line_of, report_line_of, report_line_of_fields, stat_line_of, stat_of, state_of, value_line_of, word_fields, words_in}
+use Rattle.ddr_text.specs.ReportGrammar.{clock_of, command_fields, command_of, end_line_of, flipped_line_of, has_place, in_place, issued_line_of, lower_bytes_of, optional_field, or_word, refused_line_of, report_line_of, report_line_of_fields, stat_line_of, stat_of, state_of, value_line_of, word_fields, words_in}
 use Rattle.ddr_text.specs.AcceptedReport.{IsReportLine, ReportLines}
 use Rattle.ddr_text.proofs.Decoded.{Narrow, decoded-Ok, first-fits, second-fits}
 use Rattle.ddr_text.proofs.LowerHex.{lower-in, lower-Ok}
@@ -49,8 +49,8 @@ rows-cond : (b : Bool) (command found : Command) → ◌≡◌ {A = Result Comma
 rows-cond true command found h = (refl, cc h)
 rows-cond false command found h = cc h
 
-rows-Ok : (g : Shape) (command found : Command) → in_rows g command ≡ Ok found → (has_row g command ≡ true) × (command ≡ found)
-rows-Ok g command found h = rows-cond (has_row g command) command found h
+rows-Ok : (g : Shape) (command found : Command) → in_place g command ≡ Ok found → (has_place g command ≡ true) × (command ≡ found)
+rows-Ok g command found h = rows-cond (has_place g command) command found h
 
 -- the fields of one word or none
 abbrev listed : Option (List ℕ) → List (List ℕ)
@@ -117,7 +117,7 @@ is-refused g rest = refl
 
 -- ---- what is written is read
 
-issued-in : (g : Shape) (clock : ℕ) (command : Command) → clock < 2 ^ 48 → IsInRange command → has_row g command ≡ true → issued_line_of g (decimal clock ∷ digits_of (words_of command).first ∷ listed (option_map digits_of (words_of command).second)) ≡ Ok (Issued clock command)
+issued-in : (g : Shape) (clock : ℕ) (command : Command) → clock < 2 ^ 48 → IsInRange command → has_place g command ≡ true → issued_line_of g (decimal clock ∷ digits_of (words_of command).first ∷ listed (option_map digits_of (words_of command).second)) ≡ Ok (Issued clock command)
 unfolding issued_line_of
 issued-in g clock command h r held =
     let words : Words = words_of command in
@@ -221,7 +221,7 @@ issued-only g text fields line e h =
     let clock = bind-Ok (clock_of number.0) _ line number.2 in
     let words = bind-Ok (words_in parts.0.1 parts.0.2) _ line clock.2 in
     let command = bind-Ok (command_of words.0) _ line words.2 in
-    let held = bind-Ok (in_rows g command.0) _ line command.2 in
+    let held = bind-Ok (in_place g command.0) _ line command.2 in
     let same : Issued clock.0 held.0 ≡ line = same-Ok _ _ held.2 in
     let low = below-Ok (2 ^ 48) number.0 clock.0 clock.1 in
     let numeral = (decimal-number parts.0.0 number.0 number.1).1 ∙ ap decimal low.1 in
@@ -230,7 +230,7 @@ issued-only g text fields line e h =
     let row = rows-Ok g command.0 held.0 held.1 in
     let mine : words.0 ≡ words_of held.0 = own.0 ∙ ap words_of row.1 in
     subst (Found g text) same (
-      (subst (λ n. n < 2 ^ 48) low.1 low.0, subst IsInRange row.1 own.1, subst (λ k. has_row g k ≡ true) row.1 row.0),
+      (subst (λ n. n < 2 ^ 48) low.1 low.0, subst IsInRange row.1 own.1, subst (λ k. has_place g k ≡ true) row.1 row.0),
       e ∙ ap (λ l. join_with_byte 32 (codes "C" ∷ l)) (fields-Ok fields parts.0 parts.1
           ∙ ap (λ x. x ∷ parts.0.1 ∷ listed parts.0.2) numeral
           ∙ ap (λ x. decimal clock.0 ∷ x ∷ listed parts.0.2) spelled.0

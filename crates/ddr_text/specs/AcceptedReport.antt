@@ -6,11 +6,11 @@ use Rattle.command_words.specs.Geometry.{Shape, lines_of}
 use Rattle.ddr_text.specs.declared.lines.ReportLine.{ReportLine}
 use Rattle.ddr_text.specs.declared.lines.ReportLine.TheVariants.{Issued, Value, Flip, Stat, End, Refused}
 use Rattle.ddr_text.specs.Spelling.{report_text}
-use Rattle.ddr_text.specs.ReportGrammar.{has_row, report_line_of}
+use Rattle.ddr_text.specs.ReportGrammar.{has_place, report_line_of}
 
 -- the numbers of a line are within their ranges
 abbrev pub IsReportLine : Shape → ReportLine → Type 0
-IsReportLine g (Issued clock command) = (clock < 2 ^ 48) × IsInRange command × (has_row g command ≡ true)
+IsReportLine g (Issued clock command) = (clock < 2 ^ 48) × IsInRange command × (has_place g command ≡ true)
 IsReportLine g (Value number line bytes state) = (number < 2 ^ 64) × (line < lines_of g) × (length bytes ≡ 64) × IsBytes bytes
 IsReportLine g (Flip clock line device bit) = (clock < 2 ^ 48) × (line < lines_of g) × (device < 4) × (bit < 136)
 IsReportLine g (Stat name number) = number < 2 ^ 64

@@ -60,24 +60,25 @@ or_word (Err fault) = Err (Word fault)
 unfoldable pub command_of : Words → Result Command LineFault
 command_of words = or_word (decode_of words)
 
--- the group of a bank that a command names is one of the geometry's, and so is an activation's row
-abbrev pub has_row : Shape → Command → Bool
-has_row g (ActCommand bank row) = nat_lt row g.rows && nat_lt bank.group g.groups
-has_row g (RdCommand bank column) = nat_lt bank.group g.groups
-has_row g (WrCommand bank column) = nat_lt bank.group g.groups
-has_row g (PrePbCommand bank) = nat_lt bank.group g.groups
-has_row g (PreSbCommand address) = true
-has_row g PreAbCommand = true
-has_row g RefAbCommand = true
-has_row g (RefSbCommand address) = true
-has_row g RfmAbCommand = true
-has_row g (RfmSbCommand address) = true
-has_row g (MrwCommand write) = true
-has_row g EcsCommand = true
-has_row g NopCommand = true
+-- the subchannel has what the command names: the group of its one bank, and the row of an activation
+abbrev pub has_place : Shape → Command → Bool
+has_place g (ActCommand bank row) = nat_lt row g.rows && nat_lt bank.group g.groups
+has_place g (RdCommand bank column) = nat_lt bank.group g.groups
+has_place g (WrCommand bank column) = nat_lt bank.group g.groups
+has_place g (PrePbCommand bank) = nat_lt bank.group g.groups
+has_place g (PreSbCommand address) = true
+has_place g PreAbCommand = true
+has_place g RefAbCommand = true
+has_place g (RefSbCommand address) = true
+has_place g RfmAbCommand = true
+has_place g (RfmSbCommand address) = true
+has_place g (MrwCommand write) = true
+has_place g EcsCommand = true
+has_place g NopCommand = true
 
-abbrev pub in_rows : Shape → Command → Result Command LineFault
-in_rows g command = if has_row g command then Ok command else Err Range
+-- the command, where the subchannel has its place
+abbrev pub in_place : Shape → Command → Result Command LineFault
+in_place g command = if has_place g command then Ok command else Err Range
 
 -- one field more, or none
 abbrev pub optional_field : List (List ℕ) → Result (Option (List ℕ)) LineFault
@@ -119,7 +120,7 @@ issued_line_of g fields = do
   clock ← clock_of number
   words ← words_in parts.1 parts.2
   command ← command_of words
-  held ← in_rows g command
+  held ← in_place g command
   Ok (Issued clock held)
 
 -- `D number addr hex state`

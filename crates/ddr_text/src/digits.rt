@@ -1,7 +1,7 @@
 //! The words, states and names of a report line's fields.
 ghost use Rattle.std.specs.Prelude.{◌≡◌, option_copied};
 ghost use Rattle.std.specs.List.{list_all};
-ghost use Rattle.ddr_text.specs.ReportGrammar.{is_lower_digit, lower_bytes_of, word_of, words_in, state_of, stat_of, command_of, has_row, in_rows};
+ghost use Rattle.ddr_text.specs.ReportGrammar.{is_lower_digit, lower_bytes_of, word_of, words_in, state_of, stat_of, command_of, has_place, in_place};
 
 use crate::{LineFault, StatName};
 use command_words::{Command, Geometry, Words, decode};
@@ -69,20 +69,20 @@ pub(crate) fn command_of(words: Words) -> Result<Command, LineFault>
     decode(words).map_err(|fault| LineFault::Word(fault))
 }
 
-/// The command, where its row and its bank group are the geometry's.
-pub(crate) fn in_rows(command: Command, g: Geometry) -> Result<Command, LineFault>
-    ensures { result ≡ in_rows g command }
+/// The command, where the geometry has its place.
+pub(crate) fn in_place(command: Command, g: Geometry) -> Result<Command, LineFault>
+    ensures { result ≡ in_place g command }
 {
-    if has_row(&command, g) {
+    if has_place(&command, g) {
         Ok(command)
     } else {
         Err(LineFault::Range)
     }
 }
 
-// Whether the bank group that the command names, and an activation's row, are the geometry's.
-fn has_row(command: &Command, g: Geometry) -> bool
-    ensures { result ≡ has_row g command.now }
+// Whether the geometry has what the command names: the group of its one bank, and the row of an activation.
+fn has_place(command: &Command, g: Geometry) -> bool
+    ensures { result ≡ has_place g command.now }
 {
     match command {
         Command::Act(bank, row) => row.get() < g.rows() && bank.group.get() < g.groups(),

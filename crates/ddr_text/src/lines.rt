@@ -62,7 +62,7 @@ pub enum LineFault {
     Fields,
     /// A field that must be a number is none.
     Number,
-    /// A number is outside its range.
+    /// A number is outside its range, or a command names a row or a bank group that there is not.
     Range,
     /// A `hex` or `word` field has another length or another character.
     Hex,

@@ -22,7 +22,7 @@ const MOST_BYTES: usize = 65_536;
 /// How a job begins.
 #[derive(Drop)]
 pub enum Opening {
-    /// This header, with this text.
+    /// This header, with its text and its separator as they were read.
     Accepted(Header, HeaderText),
     /// It is refused with this reason: 11 to 17, or 21 to 29.
     Refused(u8),

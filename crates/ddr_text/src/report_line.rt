@@ -5,7 +5,7 @@ ghost use Rattle.ddr_text.specs.AcceptedReport.{ReportLines};
 ghost use Rattle.ddr_text.specs.Fields.{fields_after};
 ghost use Rattle.ddr_text.specs.ReportGrammar.{report_line_of, clock_of, issued_line_of, value_line_of, flipped_line_of, stat_line_of, end_line_of, refused_line_of};
 
-use crate::digits::{command_of, in_rows, lower_bytes_of, stat_of, state_of, words_in};
+use crate::digits::{command_of, in_place, lower_bytes_of, stat_of, state_of, words_in};
 use crate::fields::{
     below, command_fields, cut, four_fields, line_at, number_of, one_field, two_fields,
 };
@@ -15,8 +15,8 @@ use command_words::Geometry;
 /// The line of a report that a text spells, without its line feed.
 ///
 /// # Errors
-/// The first fault, in the order of `LineFault`; but a row that is not below the geometry's, which is `Range`, is found
-/// after the words are decoded.
+/// The first fault, in the order of `LineFault`; but a row or a bank group that the geometry does not have, which is
+/// `Range`, is found after the words are decoded.
 #[tactic(auto, unfolding(crate::specs::ReportGrammar::report_line_of, crate::specs::ReportGrammar::report_line_of_fields))]
 pub fn read_report_line(text: &[u8], g: Geometry) -> Result<ReportLine, LineFault>
     ensures { result ≡ report_line_of g text.now }
@@ -48,7 +48,7 @@ fn issued_line(rest: Option<&[u8]>, g: Geometry) -> Result<ReportLine, LineFault
     let (clock, first, second) = command_fields(rest)?;
     let clock = clock_of(number_of(clock)?)?;
     let command = command_of(words_in(first, second)?)?;
-    Ok(ReportLine::Issued(clock, in_rows(command, g)?))
+    Ok(ReportLine::Issued(clock, in_place(command, g)?))
 }
 
 #[tactic(auto, unfolding(crate::specs::ReportGrammar::value_line_of))]

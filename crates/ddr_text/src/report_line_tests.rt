@@ -86,3 +86,101 @@ fn a_line_of_each_kind(rt: HostRuntime) -> Result<(), Fail> {
     );
     Ok(())
 }
+
+// The banks of four groups. `C 32 0400 0000` opens row 0 in group 4, `C 32 051b` precharges a bank of group 5.
+#[test]
+fn groups_of_a_header(rt: HostRuntime) -> Result<(), Fail> {
+    let four = Geometry::new(16, 4).ok_or("4 groups")?;
+    let eight = Geometry::with_rows(16);
+    let lines = [
+        "C 32 0400 0000",
+        "C 32 07cc 0000",
+        "C 32 043d 0400",
+        "C 32 072d 0c00",
+        "C 32 051b",
+        "C 32 07db",
+    ];
+    for line in lines {
+        assert_eq!(rt;
+            read_report_line(line.as_bytes(), four),
+            Err(LineFault::Range),
+            "{line}"
+        );
+        assert!(rt; read_report_line(line.as_bytes(), eight).is_ok(), "{line}");
+    }
+    let inside = [
+        "C 32 03cc 0000",
+        "C 32 033d 0400",
+        "C 32 032d 0c00",
+        "C 32 03db",
+        "C 32 04cb",
+        "C 32 06d3",
+        "C 32 04d3",
+        "C 32 000b",
+        "C 32 0213",
+        "C 32 0013",
+        "C 32 018f",
+        "C 32 001f",
+    ];
+    for line in inside {
+        assert!(rt; read_report_line(line.as_bytes(), four).is_ok(), "{line}");
+        assert!(rt; read_report_line(line.as_bytes(), eight).is_ok(), "{line}");
+    }
+    Ok(())
+}
+
+// What a command of a group that there is not spells under eight groups; and which faults come before its range.
+#[test]
+fn commands_of_a_fifth_group(rt: HostRuntime) -> Result<(), Fail> {
+    let four = Geometry::new(16, 4).ok_or("4 groups")?;
+    let eight = Geometry::with_rows(16);
+    let fifth = map_line(LineAddr::new(4, eight).ok_or("line 4")?, eight);
+    let sixth = map_line(LineAddr::new(5, eight).ok_or("line 5")?, eight);
+    assert_eq!(rt;
+        read_report_line(b"C 32 0400 0000", eight),
+        Ok(ReportLine::Issued(32, Command::Act(fifth.bank, fifth.row)))
+    );
+    assert_eq!(rt;
+        read_report_line(b"C 32 051b", eight),
+        Ok(ReportLine::Issued(32, Command::PrePb(sixth.bank)))
+    );
+    let rows = [
+        ("C x 051b", LineFault::Number),
+        ("C 32 051b ", LineFault::Hex),
+        ("C 32 0400", LineFault::Word(WordFault::SecondMissing)),
+        ("C 32 051b 0000", LineFault::Word(WordFault::SecondExtra)),
+        ("C 32 151b", LineFault::Word(WordFault::Reserved)),
+    ];
+    for (line, fault) in rows {
+        assert_eq!(rt;
+            read_report_line(line.as_bytes(), four),
+            Err(fault),
+            "{line}"
+        );
+    }
+    Ok(())
+}
+
+// The last line of 16 rows in four groups, and the one behind it.
+#[test]
+fn last_line_of_four_groups(rt: HostRuntime) -> Result<(), Fail> {
+    let g = Geometry::new(16, 4).ok_or("4 groups")?;
+    let last = LineAddr::new(16383, g).ok_or("line 16383")?;
+    assert_eq!(rt;
+        read_report_line(b"F 1 16383 0 0", g),
+        Ok(ReportLine::Flip(1, last, 0, 0))
+    );
+    assert_eq!(rt;
+        read_report_line(b"F 1 16384 0 0", g),
+        Err(LineFault::Range)
+    );
+    assert_eq!(rt;
+        read_report_line(b"D 1 16383 00 ok", g),
+        Err(LineFault::Hex)
+    );
+    assert_eq!(rt;
+        read_report_line(b"D 1 16384 00 ok", g),
+        Err(LineFault::Range)
+    );
+    Ok(())
+}

@@ -106,3 +106,29 @@ fn numbers_at_their_ends(rt: HostRuntime) -> Result<(), Fail> {
     );
     Ok(())
 }
+
+// The last line of 16 rows in four groups, and the one behind it.
+#[test]
+fn last_line_of_four_groups(rt: HostRuntime) -> Result<(), Fail> {
+    let g = Geometry::new(16, 4).ok_or("4 groups")?;
+    let alloc = rt.alloc();
+    let last = LineAddr::new(16383, g).ok_or("line 16383")?;
+    assert_eq!(rt; read_trace_line(b"R 16383", g), Ok(TraceLine::Read(last)));
+    assert_eq!(rt;
+        read_trace_line(b"F 16383 0 0", g),
+        Ok(TraceLine::Flip(last, 0, 0))
+    );
+    let write = format!(in alloc; "W 16383 {SHORT}00")?;
+    assert_eq!(rt;
+        read_trace_line(write.as_bytes(), g),
+        Ok(TraceLine::Write(last, [0; 64]))
+    );
+    for line in ["R 16384", "W 16384 00", "F 16384 0 0", "R 32767"] {
+        assert_eq!(rt;
+            read_trace_line(line.as_bytes(), g),
+            Err(LineFault::Range),
+            "{line}"
+        );
+    }
+    Ok(())
+}

@@ -7,7 +7,7 @@ use Rattle.std.specs.Option.{option_or}
 use Rattle.bank_state.specs.Standing.{Fits}
 use Rattle.command_words.specs.declared.command.Command.{Command}
 use Rattle.command_words.specs.declared.command.Command.TheVariants.{Act, Rd, Wr, PrePb, PreSb, PreAb, RefAb, RefSb, RfmAb, RfmSb, Mrw, Ecs, Nop}
-use Rattle.ddr_text.specs.ReportGrammar.{has_row}
+use Rattle.ddr_text.specs.ReportGrammar.{has_place}
 use Rattle.refresh_plan.specs.Standing.{IsAllowed, refresh_rules}
 use Rattle.speed_bin.specs.Log.{Log, Issued}
 use Rattle.speed_bin.specs.Marks.{is_bank, Keeps, RowsInRange, is_in_range}
@@ -139,7 +139,7 @@ still_fine h clock command log e f = rw (e, f) refl
 own_bank : (h : Header) (bank : Bank) → IsBank bank → nat_lt bank.group h.version.groups ≡ true → is_bank h bank ≡ true
 own_bank h bank inside here = let low = ltb-true bank.group h.version.groups here in let a = inside.address in lt-ltb (bank_number bank) (h.version.groups * 4) (omega (arith, low, a))
 
-pub in_range : (h : Header) (command : Command) → IsInRange command → has_row (shape_of h) command ≡ true → is_in_range h command ≡ true
+pub in_range : (h : Header) (command : Command) → IsInRange command → has_place (shape_of h) command ≡ true → is_in_range h command ≡ true
 in_range h (Act bank row) inside e =
     let p = both (nat_lt row h.settings.rows) (nat_lt bank.group h.version.groups) e in
     joined (nat_lt row h.settings.rows) (is_bank h bank) p.0 (own_bank h bank inside.0 p.1)

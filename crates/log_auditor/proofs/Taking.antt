@@ -2,7 +2,7 @@
 use Rattle.std.proofs.Common.{◌≡◌, ◌∙◌, ℕ, suc, ◌<◌, ◌≤◌, ◌^◌, Bool, true, false, Option, Some, None, ◌∷◌, length, refl, sym, ap, arith, subst}
 use Rattle.command_words.specs.declared.command.Command.{Command}
 use Rattle.ddr_text.specs.AcceptedReport.{IsReportLine}
-use Rattle.ddr_text.specs.ReportGrammar.{has_row}
+use Rattle.ddr_text.specs.ReportGrammar.{has_place}
 use Rattle.ddr_text.specs.declared.lines.ReportLine.{ReportLine}
 use Rattle.ddr_text.specs.declared.lines.ReportLine.TheVariants.{Issued, Value, Flip, Stat, End, Refused}
 use Rattle.speed_bin.specs.Header.{IsAccepted, shape_of}
