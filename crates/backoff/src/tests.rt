@@ -35,6 +35,23 @@ fn one_row_is_hot_at_its_fifth_closing(rt: HostRuntime) -> Result<(), Fail> {
 }
 
 #[test]
+fn the_window_of_two_activations_has_room_for_one_more(rt: HostRuntime) -> Result<(), Fail> {
+    let mut timing = named("tiny").ok_or("tiny")?;
+    timing.nabo = 13;
+    // a row that is closed every 10 clocks is hot at its third closing
+    let closings = [(38, false), (48, false), (58, true), (68, true)];
+    let mut alert = Alert::new();
+    for (clock, hot) in closings {
+        alert.after_precharge(clock, hot, true);
+    }
+    assert_eq!(rt; alert.raised(), Some(58));
+    // an ACT at clock 62 is in time, and one at clock 72 is not
+    assert_eq!(rt; alert.last_activate(&timing), Some(71));
+    assert_eq!(rt; alert.deadline(&timing), Some(640));
+    Ok(())
+}
+
+#[test]
 fn rows_that_stay_hot_raise_it_again_at_the_next_closing(rt: HostRuntime) -> Result<(), Fail> {
     let tiny = named("tiny").ok_or("tiny")?;
     let mut alert = Alert::new();
