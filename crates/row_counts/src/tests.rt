@@ -18,6 +18,26 @@ const ONE_ROW: Settings = Settings {
     ecs_every: 0,
 };
 
+const ONE_ROW_AT_THREE: Settings = Settings {
+    rows: 1,
+    ath: 3,
+    eth: 3,
+    raaimt: 8,
+    raammt: 16,
+    refresh: RefreshMode::All,
+    ecs_every: 0,
+};
+
+const ONE_ROW_AT_SIX: Settings = Settings {
+    rows: 1,
+    ath: 6,
+    eth: 6,
+    raaimt: 8,
+    raammt: 16,
+    refresh: RefreshMode::All,
+    ecs_every: 0,
+};
+
 const TWO_ROWS: Settings = Settings {
     rows: 2,
     ath: 5,
@@ -38,33 +58,45 @@ const MANY_ROWS: Settings = Settings {
     ecs_every: 0,
 };
 
-#[test]
-fn heights_of_powers_of_two(rt: HostRuntime) {
-    let cases = [(1, 0), (8, 7), (16, 9), (64, 14), (1024, 24), (65_536, 38)];
-    for (rows, expected) in cases {
-        assert_eq!(rt; height(rows, 4), expected);
-    }
-    assert_eq!(rt; height(65_536, 2), 16);
-    assert_eq!(rt; height(65_536, 3), 27);
-    assert_eq!(rt; height(65_536, 5), 49);
-    assert_eq!(rt; height(16, 3), 6);
-    assert_eq!(rt; height(1, 5), 0);
+// The heights of the rows for the cycles 2, 3, 4 and 5.
+fn heights(rows: u32) -> [u32; 4]
+    requires { (1 ≤ rows) × (rows ≤ 65536) }
+{
+    [
+        height(rows, 2),
+        height(rows, 3),
+        height(rows, 4),
+        height(rows, 5),
+    ]
 }
 
-// Closes the rows in turn, and stops at one whose closing cannot be counted.
-fn close_each(counts: &mut BankCounts, settings: &Settings, rows: &[u32]) -> bool
-    requires ath { counts.old.ath ≡ settings.now.ath }
+#[test]
+fn heights_by_rows_and_cycle(rt: HostRuntime) {
+    assert_eq!(rt; heights(1), [0, 0, 0, 0]);
+    assert_eq!(rt; heights(2), [1, 1, 2, 3]);
+    assert_eq!(rt; heights(3), [1, 2, 3, 4]);
+    assert_eq!(rt; heights(4), [2, 3, 4, 6]);
+    assert_eq!(rt; heights(8), [3, 5, 7, 9]);
+    assert_eq!(rt; heights(16), [4, 6, 9, 12]);
+    assert_eq!(rt; heights(64), [6, 10, 14, 18]);
+    assert_eq!(rt; heights(1023), [9, 17, 24, 31]);
+    assert_eq!(rt; heights(1024), [10, 17, 24, 31]);
+    assert_eq!(rt; heights(65_535), [15, 27, 38, 49]);
+    assert_eq!(rt; heights(65_536), [16, 27, 38, 49]);
+}
+
+// Closes the rows in turn, and stops at one whose count is the bound.
+fn close_each(counts: &mut BankCounts, bound: u32, settings: &Settings, rows: &[u32]) -> bool
     requires rows { counts.old.order.rows ≡ settings.now.rows }
-    requires levels { settings.now.ath + 2 ≤ counts.old.order.levels }
+    requires levels { bound + 1 ≤ counts.old.order.levels }
     requires changes { counts.old.changes + length rows.now < 2 ^ 48 }
-    ensures ath { counts.new.ath ≡ settings.now.ath }
-    ensures rows { counts.new.order.rows ≡ settings.now.rows }
-    ensures levels { settings.now.ath + 2 ≤ counts.new.order.levels }
+    ensures rows { counts.new.order.rows ≡ counts.old.order.rows }
+    ensures levels { counts.new.order.levels ≡ counts.old.order.levels }
     ensures changes { counts.new.changes ≤ counts.old.changes + length rows.now }
 {
     for number in rows {
         match Row::new(*number) {
-            Some(row) if row.get() < settings.rows && counts.count(row) <= settings.ath =>
+            Some(row) if row.get() < settings.rows && counts.count(row) < bound =>
                 counts.close(row),
             _ => return false,
         }
@@ -76,15 +108,54 @@ fn close_each(counts: &mut BankCounts, settings: &Settings, rows: &[u32]) -> boo
 fn one_row_is_hot_at_the_fifth_closing(rt: HostRuntime) -> Result<(), Fail> {
     let row = Row::new(0).ok_or("row")?;
     let mut counts = BankCounts::new(rt.alloc(), &ONE_ROW, Version::plain()).ok().ok_or("memory")?;
-    assert!(rt; close_each(&mut counts, &ONE_ROW, &[0, 0, 0, 0]));
+    assert!(rt; close_each(&mut counts, 8, &ONE_ROW, &[0, 0, 0, 0]));
     assert_eq!(rt; counts.count(row), 4);
     assert!(rt; !counts.hot());
     assert_eq!(rt; counts.mitigate(), None);
-    assert!(rt; close_each(&mut counts, &ONE_ROW, &[0]));
+    assert!(rt; close_each(&mut counts, 8, &ONE_ROW, &[0]));
     assert_eq!(rt; counts.tracked(), (row, 5));
+    assert!(rt; counts.hot());
+    // three more are let through before it is mitigated: the bound is 5 + 0 + 4 - 1
+    assert!(rt; close_each(&mut counts, 8, &ONE_ROW, &[0, 0, 0]));
+    assert_eq!(rt; counts.tracked(), (row, 8));
     assert!(rt; counts.hot());
     assert_eq!(rt; counts.mitigate(), Some(row));
     assert_eq!(rt; counts.count(row), 0);
+    assert!(rt; !counts.hot());
+    Ok(())
+}
+
+#[test]
+fn two_activations_a_cycle(rt: HostRuntime) -> Result<(), Fail> {
+    let row = Row::new(0).ok_or("row")?;
+    let version = Version::new(2, 4).ok_or("version")?;
+    let mut counts = BankCounts::new(rt.alloc(), &ONE_ROW_AT_THREE, version).ok().ok_or("memory")?;
+    assert!(rt; close_each(&mut counts, 4, &ONE_ROW_AT_THREE, &[0, 0]));
+    assert!(rt; !counts.hot());
+    assert!(rt; close_each(&mut counts, 4, &ONE_ROW_AT_THREE, &[0]));
+    assert!(rt; counts.hot());
+    // one more is let through: the bound is 3 + 0 + 2 - 1
+    assert!(rt; close_each(&mut counts, 4, &ONE_ROW_AT_THREE, &[0]));
+    assert_eq!(rt; counts.tracked(), (row, 4));
+    assert_eq!(rt; counts.mitigate(), Some(row));
+    assert_eq!(rt; counts.tracked(), (row, 0));
+    Ok(())
+}
+
+#[test]
+fn five_activations_a_cycle(rt: HostRuntime) -> Result<(), Fail> {
+    let row = Row::new(0).ok_or("row")?;
+    let version = Version::new(5, 8).ok_or("version")?;
+    let mut counts = BankCounts::new(rt.alloc(), &ONE_ROW_AT_SIX, version).ok().ok_or("memory")?;
+    assert!(rt; close_each(&mut counts, 10, &ONE_ROW_AT_SIX, &[0, 0, 0, 0, 0]));
+    assert!(rt; !counts.hot());
+    assert!(rt; close_each(&mut counts, 10, &ONE_ROW_AT_SIX, &[0]));
+    assert!(rt; counts.hot());
+    // four more are let through: the bound is 6 + 0 + 5 - 1
+    assert!(rt; close_each(&mut counts, 10, &ONE_ROW_AT_SIX, &[0, 0, 0, 0]));
+    assert_eq!(rt; counts.tracked(), (row, 10));
+    assert_eq!(rt; counts.mitigate(), Some(row));
+    assert_eq!(rt; counts.mitigate(), None);
     Ok(())
 }
 
@@ -96,6 +167,7 @@ fn of_two_equal_rows_the_older_is_tracked(rt: HostRuntime) -> Result<(), Fail> {
     assert!(rt;
         close_each(
             &mut counts,
+            8,
             &TWO_ROWS,
             &[0, 0, 0, 0, 1, 1, 1, 1, 0, 1, 1, 0]
         )
@@ -154,7 +226,6 @@ impl Tables {
 // The row that is mitigated, by its number.
 fn mitigated(counts: &mut BankCounts) -> Option<u32>
     requires changes { counts.old.changes < 2 ^ 48 }
-    ensures ath { counts.new.ath ≡ counts.old.ath }
     ensures rows { counts.new.order.rows ≡ counts.old.order.rows }
     ensures levels { counts.new.order.levels ≡ counts.old.order.levels }
     ensures changes { counts.new.changes ≤ counts.old.changes + 1 }
@@ -181,7 +252,7 @@ fn agreed(alloc: Global, changes: u32) -> Option<u32> {
                 return Some(step);
             }
         } else {
-            if !close_each(&mut counts, &MANY_ROWS, &[number]) {
+            if !close_each(&mut counts, 67, &MANY_ROWS, &[number]) {
                 return None;
             }
             tables.close(number, step + 1);

@@ -3,8 +3,7 @@ use Rattle.row_counts.proofs.tests.agreed.Given as goal
 
 abbrev pub invariant-loop-step : goal.invariant-loop-step
 invariant-loop-step l = record {
-  ath : l.counts.ath ≡ 64;
   rows : l.counts.order.rows ≡ 64;
-  levels : 66 ≤ l.counts.order.levels;
+  levels : 68 ≤ l.counts.order.levels;
   changes : l.counts.changes ≤ l.step;
 }

@@ -3,8 +3,7 @@ use Rattle.row_counts.proofs.tests.close_each.Given as goal
 
 abbrev pub invariant-loop-number : goal.invariant-loop-number
 invariant-loop-number l = record {
-  ath : l.counts.ath ≡ l.settings.ath;
   rows : l.counts.order.rows ≡ l.settings.rows;
-  levels : l.settings.ath + 2 ≤ l.counts.order.levels;
+  levels : l.counts.order.levels ≡ l.initial.counts.order.levels;
   changes : l.counts.changes ≤ l.initial.counts.changes + l.number-index;
 }
