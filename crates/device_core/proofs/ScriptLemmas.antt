@@ -1,5 +1,5 @@
 -- Scripts that tests play are legal, and what playing one line takes.
-use Rattle.std.proofs.Common.{◌≡◌, ◌∙◌, ◌<◌, ℕ, zero, suc, ◌+◌, Bool, true, false, cond, Option, Some, None, is_some, List, [], ◌∷◌, length, drop, get_or, Result, Ok, Err, IfOk, is_none, nat_lt, refl, sym, ap, subst, arith, leb-true, ltb-true, inr}
+use Rattle.std.proofs.Common.{◌≡◌, ◌∙◌, ◌<◌, ℕ, zero, suc, ◌+◌, Bool, true, false, cond, Option, Some, None, is_some, List, [], ◌∷◌, length, drop, get_or, Result, Ok, Err, IfOk, is_none, nat_lt, refl, sym, ap, subst, arith, leb-true, ltb-true, inl, inr}
 use Rattle.command_words.specs.Command.{IsInRange}
 use Rattle.command_words.specs.Decode.{decode_of, named_in}
 use Rattle.command_words.specs.Words.{Spells}
@@ -13,7 +13,7 @@ use Rattle.speed_bin.specs.Gap.{n_tail, n_max, n_close, n_col}
 use Rattle.speed_bin.specs.Header.{IsAccepted, spare}
 use Rattle.speed_bin.specs.Version.{plain}
 use Rattle.command_words.specs.Kinds.{is_wr}
-use Rattle.speed_bin.specs.Timing.{tiny}
+use Rattle.speed_bin.specs.Timing.{IsTiming, tiny}
 use Rattle.speed_bin.proofs.SpareIsNeeded.{tiny_timing}
 use Rattle.speed_bin.proofs.Tests.{both, none_from_test}
 use Rattle.device_core.specs.Steps.{Step, Flips}
@@ -192,6 +192,75 @@ two_rows_accepted = record {
   };
 }
 
+-- the one row of a bank of four groups, with an alert window for two activations
+abbrev pub two_per_cycle : Header
+two_per_cycle = record {
+  timing = record tiny { nabo = 13 };
+  settings = record {
+    rows = 1;
+    ath = 3;
+    eth = 3;
+    raaimt = 8;
+    raammt = 16;
+    refresh = All;
+    ecs_every = 0;
+  };
+  version = record { cycle = 2; groups = 4 };
+}
+
+short_window : IsTiming two_per_cycle.timing
+short_window = record {
+  ncl = tiny_timing.ncl;
+  ncwl = tiny_timing.ncwl;
+  nrcd = tiny_timing.nrcd;
+  nrp = tiny_timing.nrp;
+  nras = tiny_timing.nras;
+  nrc = tiny_timing.nrc;
+  nrrd_s = tiny_timing.nrrd_s;
+  nrrd_l = tiny_timing.nrrd_l;
+  nfaw = tiny_timing.nfaw;
+  nccd_s = tiny_timing.nccd_s;
+  nccd_l = tiny_timing.nccd_l;
+  nccd_l_wr = tiny_timing.nccd_l_wr;
+  nwtr_s = tiny_timing.nwtr_s;
+  nwtr_l = tiny_timing.nwtr_l;
+  nrtp = tiny_timing.nrtp;
+  nwr = tiny_timing.nwr;
+  nrfc = tiny_timing.nrfc;
+  nrfcsb = tiny_timing.nrfcsb;
+  nrfm = tiny_timing.nrfm;
+  nrfmsb = tiny_timing.nrfmsb;
+  nrefi = tiny_timing.nrefi;
+  nabo = (leb-true _ _ refl, leb-true _ _ refl);
+  nmrd = tiny_timing.nmrd;
+  necs = tiny_timing.necs;
+}
+
+pub two_per_cycle_accepted : IsAccepted two_per_cycle
+unfolding all_below any_below n_tail n_max n_close n_col spare
+two_per_cycle_accepted = record {
+  timing = short_window;
+  settings = record {
+    rows = (leb-true _ _ refl, leb-true _ _ refl);
+    ath = (leb-true _ _ refl, leb-true _ _ refl);
+    eth = (leb-true _ _ refl, leb-true _ _ refl);
+    raaimt = (leb-true _ _ refl, leb-true _ _ refl);
+    raammt = (leb-true _ _ refl, leb-true _ _ refl);
+    ecs_every = leb-true _ _ refl;
+  };
+  version = (leb-true _ _ refl, leb-true _ _ refl, inl refl);
+  checks = record {
+    precharge_within_cycle = leb-true _ _ refl;
+    window = ltb-true _ _ refl;
+    thresholds = (leb-true _ _ refl, leb-true _ _ refl);
+    management = (leb-true _ _ refl, leb-true _ _ refl);
+    closing_within_two = leb-true _ _ refl;
+    round_within_half = leb-true _ _ refl;
+    latencies = refl;
+    bursts = (leb-true _ _ refl, leb-true _ _ refl, leb-true _ _ refl);
+  };
+}
+
 -- ---- Scripts
 
 -- the register writes of sixteen rows, an ACT of row 0 and a WR of its column 0
@@ -301,6 +370,28 @@ raised_twice =
     ∷ (216, 0x0013, None, false)
     ∷ []
 
+-- the row is closed three times, and the alert is raised; it is closed once more, and mitigated
+abbrev pub four_closings : Script
+four_closings =
+    (0, 0x0805, Some 0x0000, false)
+    ∷ (4, 0x0825, Some 0x0000, false)
+    ∷ (8, 0x0845, Some 0x0003, false)
+    ∷ (12, 0x0865, Some 0x0003, false)
+    ∷ (16, 0x0885, Some 0x0000, false)
+    ∷ (20, 0x08a5, Some 0x0008, false)
+    ∷ (24, 0x08c5, Some 0x0010, false)
+    ∷ (28, 0x08e5, Some 0x0000, false)
+    ∷ (32, 0x03c0, Some 0x0000, false)
+    ∷ (38, 0x03db, None, false)
+    ∷ (42, 0x03c0, Some 0x0000, false)
+    ∷ (48, 0x03db, None, false)
+    ∷ (52, 0x03c0, Some 0x0000, false)
+    ∷ (58, 0x03db, None, true)
+    ∷ (62, 0x03c0, Some 0x0000, true)
+    ∷ (68, 0x03db, None, true)
+    ∷ (72, 0x0013, None, false)
+    ∷ []
+
 pub write_is_legal : (bytes : List ℕ) → is_legal (small 16 3 8 16 0) bytes up_to_write [] ≡ true
 unfolding all_below any_below n_tail n_max n_close n_col named_in
 write_is_legal bytes = refl
@@ -344,6 +435,10 @@ read_of_lost_is_legal bytes = refl
 pub raised_twice_is_legal : (bytes : List ℕ) → is_legal (small 2 5 32 64 0) bytes raised_twice [] ≡ true
 unfolding all_below any_below n_tail n_max n_close n_col named_in
 raised_twice_is_legal bytes = refl
+
+pub four_closings_are_legal : (bytes : List ℕ) → is_legal two_per_cycle bytes four_closings [] ≡ true
+unfolding all_below any_below n_tail n_max n_close n_col named_in
+four_closings_are_legal bytes = refl
 
 -- ---- Bits of line 0
 

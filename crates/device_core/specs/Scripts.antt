@@ -6,11 +6,21 @@ use Rattle.command_words.specs.declared.geometry.Place.{Place}
 use Rattle.command_words.specs.declared.command.Command.{Command}
 use Rattle.command_words.specs.declared.words.WordFault.{WordFault}
 use Rattle.speed_bin.specs.declared.header.Header.{Header}
+use Rattle.speed_bin.specs.declared.settings.Settings.{Settings}
+use Rattle.speed_bin.specs.declared.timing.Timing.{Timing}
 use Rattle.command_words.specs.Kinds.{is_wr}
 use Rattle.speed_bin.specs.Marks.{is_in_range}
 use Rattle.speed_bin.specs.Rules.{broken}
 use Rattle.device_core.specs.Steps.{Step, log_of}
 use Rattle.device_core.specs.Standing.{with_command}
+
+-- a header of these parts
+abbrev pub header_of : Timing → Settings → ℕ → ℕ → Header
+header_of timing settings cycle groups = record {
+  timing = timing;
+  settings = settings;
+  version = record { cycle = cycle; groups = groups };
+}
 
 abbrev pub Script : Type 0
 Script = List (ℕ × ℕ × Option ℕ × Bool)

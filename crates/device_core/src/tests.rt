@@ -1,20 +1,22 @@
 //! Logs from the outside, stepped against their numbers.
-ghost use Rattle.std.specs.Prelude.{ℕ, ◌≡◌, ◌∷◌, true, Ok, IfOk, List};
+ghost use Rattle.std.specs.Prelude.{ℕ, ◌≡◌, [], ◌∷◌, true, Ok, IfOk, List};
 ghost use Rattle.command_words.specs.Command.{IsInRange};
 ghost use Rattle.command_words.specs.Decode.{decode_of};
 ghost use Rattle.command_words.specs.Words.{Spells};
 ghost use Rattle.command_words.specs.declared.command.Command.{Command as AnyCommand};
+ghost use Rattle.speed_bin.specs.Header.{IsAccepted};
 ghost use Rattle.speed_bin.specs.declared.header.Header.{Header as AnyHeader};
 ghost use Rattle.device_core.specs.Standing.{StandsFor, IsBit, lent};
 ghost use Rattle.device_core.specs.Steps.{Step, Flips};
-ghost use Rattle.device_core.specs.Scripts.{played, is_legal, bytes_for, first_place};
+ghost use Rattle.device_core.specs.Scripts.{header_of, played, is_legal, bytes_for, first_place};
 
 use crate::Device;
 use command_words::{Bank, BankAddr, Column, Command, Group, Place, Row, Words, decode};
 use ddr_io::OutOfMemory;
 use error_scrub::{LineRead, ScrubCounts};
 use ondie_ecc::ReadState;
-use speed_bin::{Header, RefreshMode, Settings, Timing};
+use speed_bin::{Header, RefreshMode, Settings, Timing, Version};
+use std::alloc::Global;
 use std::test::Fail;
 
 const TINY: Timing = Timing {
@@ -44,43 +46,47 @@ const TINY: Timing = Timing {
     necs: 14,
 };
 
-const SIXTEEN_ROWS: Header = Header {
-    timing: TINY,
-    settings: Settings {
-        rows: 16,
-        ath: 5,
-        eth: 3,
-        raaimt: 8,
-        raammt: 16,
-        refresh: RefreshMode::All,
-        ecs_every: 0,
-    },
+// With an alert window that a back-off cycle of two activations has room for.
+const SHORT_WINDOW: Timing = Timing { nabo: 13, ..TINY };
+
+const SIXTEEN_ROWS: Settings = Settings {
+    rows: 16,
+    ath: 5,
+    eth: 3,
+    raaimt: 8,
+    raammt: 16,
+    refresh: RefreshMode::All,
+    ecs_every: 0,
 };
 
-const SCRUBBED_ROWS: Header = Header {
-    timing: TINY,
-    settings: Settings {
-        rows: 16,
-        ath: 5,
-        eth: 3,
-        raaimt: 8,
-        raammt: 16,
-        refresh: RefreshMode::All,
-        ecs_every: 1,
-    },
+const SCRUBBED_ROWS: Settings = Settings {
+    rows: 16,
+    ath: 5,
+    eth: 3,
+    raaimt: 8,
+    raammt: 16,
+    refresh: RefreshMode::All,
+    ecs_every: 1,
 };
 
-const TWO_ROWS: Header = Header {
-    timing: TINY,
-    settings: Settings {
-        rows: 2,
-        ath: 5,
-        eth: 5,
-        raaimt: 32,
-        raammt: 64,
-        refresh: RefreshMode::All,
-        ecs_every: 0,
-    },
+const TWO_ROWS: Settings = Settings {
+    rows: 2,
+    ath: 5,
+    eth: 5,
+    raaimt: 32,
+    raammt: 64,
+    refresh: RefreshMode::All,
+    ecs_every: 0,
+};
+
+const ONE_ROW: Settings = Settings {
+    rows: 1,
+    ath: 3,
+    eth: 3,
+    raaimt: 8,
+    raammt: 16,
+    refresh: RefreshMode::All,
+    ecs_every: 0,
 };
 
 // A command at its clock: its words, and whether the alert is raised after it.
@@ -180,6 +186,48 @@ const RAISED_TWICE: [Line; 42] = [
     (216, 0x0013, None, false),
 ];
 
+// The one row of the last bank of four groups: the alert is raised when it is closed for the third time, and one more
+// ACT is let through before it is mitigated.
+const TWO_PER_CYCLE: [Line; 17] = [
+    (0, 0x0805, Some(0x0000), false),
+    (4, 0x0825, Some(0x0000), false),
+    (8, 0x0845, Some(0x0003), false),
+    (12, 0x0865, Some(0x0003), false),
+    (16, 0x0885, Some(0x0000), false),
+    (20, 0x08a5, Some(0x0008), false),
+    (24, 0x08c5, Some(0x0010), false),
+    (28, 0x08e5, Some(0x0000), false),
+    (32, 0x03c0, Some(0x0000), false),
+    (38, 0x03db, None, false),
+    (42, 0x03c0, Some(0x0000), false),
+    (48, 0x03db, None, false),
+    (52, 0x03c0, Some(0x0000), false),
+    (58, 0x03db, None, true),
+    (62, 0x03c0, Some(0x0000), true),
+    (68, 0x03db, None, true),
+    (72, 0x0013, None, false),
+];
+
+// A device of this timing, these settings, this cycle and so many groups.
+fn device_of(
+    alloc: Global,
+    timing: &Timing,
+    settings: &Settings,
+    cycle: u32,
+    groups: u8,
+) -> Result<Device, OutOfMemory>
+    requires { IsAccepted (header_of timing.now settings.now cycle groups) }
+    ensures { IfOk result (λ device. StandsFor device (header_of timing.now settings.now cycle groups) []) }
+{
+    let version = Version::new(cycle, groups).unwrap();
+    let header = Header {
+        timing: *timing,
+        settings: *settings,
+        version,
+    };
+    Device::new(alloc, &header)
+}
+
 // The bytes of a line that is zero but for its first byte.
 fn line_of(first: u8) -> [u8; 64] {
     let mut bytes = [0; 64];
@@ -268,7 +316,7 @@ fn turn(device: &mut Device, of: u8, bit: u8) -> Result<(), OutOfMemory>
 #[test]
 fn a_line_is_written_and_read(rt: HostRuntime) -> Result<(), Fail> {
     let bytes = line_of(0x11);
-    let mut device = Device::new(rt.alloc(), &SIXTEEN_ROWS)?;
+    let mut device = device_of(rt.alloc(), &TINY, &SIXTEEN_ROWS, 4, 8)?;
     play(&mut device, &bytes, &UP_TO_WRITE)?;
     let read = play(&mut device, &bytes, &READ_BACK)?;
     assert!(rt; read == found(0x11, ReadState::Clean));
@@ -280,7 +328,7 @@ fn a_line_is_written_and_read(rt: HostRuntime) -> Result<(), Fail> {
 #[test]
 fn one_flip_in_each_codeword_is_fixed(rt: HostRuntime) -> Result<(), Fail> {
     let bytes = line_of(0x11);
-    let mut device = Device::new(rt.alloc(), &SIXTEEN_ROWS)?;
+    let mut device = device_of(rt.alloc(), &TINY, &SIXTEEN_ROWS, 4, 8)?;
     play(&mut device, &bytes, &UP_TO_WRITE)?;
     turn(&mut device, 0, 0)?;
     turn(&mut device, 1, 63)?;
@@ -294,7 +342,7 @@ fn one_flip_in_each_codeword_is_fixed(rt: HostRuntime) -> Result<(), Fail> {
 #[test]
 fn a_scrub_between_two_flips_undoes_the_first(rt: HostRuntime) -> Result<(), Fail> {
     let bytes = line_of(0);
-    let mut device = Device::new(rt.alloc(), &SCRUBBED_ROWS)?;
+    let mut device = device_of(rt.alloc(), &TINY, &SCRUBBED_ROWS, 4, 8)?;
     play(&mut device, &bytes, &UP_TO_WRITE_WITH_SCRUB)?;
     turn(&mut device, 0, 2)?;
     play(&mut device, &bytes, &SCRUBBED)?;
@@ -308,7 +356,7 @@ fn a_scrub_between_two_flips_undoes_the_first(rt: HostRuntime) -> Result<(), Fai
 #[test]
 fn two_flips_make_a_wrong_word(rt: HostRuntime) -> Result<(), Fail> {
     let bytes = line_of(0);
-    let mut device = Device::new(rt.alloc(), &SIXTEEN_ROWS)?;
+    let mut device = device_of(rt.alloc(), &TINY, &SIXTEEN_ROWS, 4, 8)?;
     play(&mut device, &bytes, &UP_TO_WRITE)?;
     turn(&mut device, 0, 2)?;
     play(&mut device, &bytes, &REFRESHED)?;
@@ -321,7 +369,7 @@ fn two_flips_make_a_wrong_word(rt: HostRuntime) -> Result<(), Fail> {
 #[test]
 fn two_other_flips_are_lost(rt: HostRuntime) -> Result<(), Fail> {
     let bytes = line_of(0);
-    let mut device = Device::new(rt.alloc(), &SIXTEEN_ROWS)?;
+    let mut device = device_of(rt.alloc(), &TINY, &SIXTEEN_ROWS, 4, 8)?;
     play(&mut device, &bytes, &UP_TO_WRITE)?;
     turn(&mut device, 0, 15)?;
     play(&mut device, &bytes, &REFRESHED)?;
@@ -334,8 +382,17 @@ fn two_other_flips_are_lost(rt: HostRuntime) -> Result<(), Fail> {
 #[test]
 fn rows_that_stay_hot_raise_the_alert_again(rt: HostRuntime) -> Result<(), Fail> {
     let bytes = line_of(0);
-    let mut device = Device::new(rt.alloc(), &TWO_ROWS)?;
+    let mut device = device_of(rt.alloc(), &TINY, &TWO_ROWS, 4, 8)?;
     play(&mut device, &bytes, &RAISED_TWICE)?;
     assert_eq!(rt; device.peak(), 10);
+    Ok(())
+}
+
+#[test]
+fn two_activations_a_cycle_and_four_groups(rt: HostRuntime) -> Result<(), Fail> {
+    let bytes = line_of(0);
+    let mut device = device_of(rt.alloc(), &SHORT_WINDOW, &ONE_ROW, 2, 4)?;
+    play(&mut device, &bytes, &TWO_PER_CYCLE)?;
+    assert_eq!(rt; device.peak(), 4);
     Ok(())
 }

@@ -2,8 +2,8 @@ use Rattle.std.proofs.Common.{[], refl}
 use Rattle.device_core.proofs.ScriptLemmas.{is_bit, read_after_scrub_is_legal, scrub_is_legal, scrubbed_accepted, small, write_with_scrub_is_legal}
 use Rattle.device_core.proofs.tests.a_scrub_between_two_flips_undoes_the_first.Goals as goal
 
-pub new-requires : goal.new-requires
-new-requires g c = scrubbed_accepted
+pub device_of-requires : goal.device_of-requires
+device_of-requires g c = scrubbed_accepted
 
 pub play-requires : goal.play-requires
 play-requires g c = (small 16 3 8 16 1, [], c.in_ok-device.ensures, write_with_scrub_is_legal c.line_of-bytes.result)

@@ -2,8 +2,8 @@ use Rattle.std.proofs.Common.{[], refl}
 use Rattle.device_core.proofs.ScriptLemmas.{is_bit, read_of_lost_is_legal, refresh_of_lost_is_legal, sixteen_rows_accepted, small, write_is_legal}
 use Rattle.device_core.proofs.tests.two_other_flips_are_lost.Goals as goal
 
-pub new-requires : goal.new-requires
-new-requires g c = sixteen_rows_accepted
+pub device_of-requires : goal.device_of-requires
+device_of-requires g c = sixteen_rows_accepted
 
 pub play-requires : goal.play-requires
 play-requires g c = (small 16 3 8 16 0, [], c.in_ok-device.ensures, write_is_legal c.line_of-bytes.result)
