@@ -1,17 +1,17 @@
 -- The header of a job, line by line.
 use Rattle.std.proofs.Common.{codes, ◌≡◌, ◌≢◌, ℕ, ◌+◌, ◌<◌, ◌≤◌, Bool, true, false, if◌then◌else◌, List, [], ◌∷◌, ◌++◌, length, take, drop, get_or, refl, sym, ap, ◌∙◌, subst, arith, append_assoc, length-append, length-take-le, take-append-drop, drop_at, Option, Some, None, Result, Ok, Err, OnErr, lit<}
 use Rattle.std.specs.List.{All, slice_split, onto_first}
-use Rattle.std.specs.Io.KnownBytes.{Consumes}
+use Rattle.std.specs.Io.KnownBytes.{Consumes, Keeps}
 use Rattle.std.proofs.KnownBytes.{Consumes-trans}
 use Rattle.std.proofs.lemmas.Bool.{ne_eqb, le-ltb, lt-ltb, ltb-false}
 use Rattle.std.proofs.lemmas.Slice.Eq.{bytes_eq-Decides}
 use Rattle.std.proofs.lemmas.List.Splits.{slice_split_at, slice_split_none, slice_split-cons_yes, slice_split-cons_no}
 use Rattle.std.proofs.lemmas.List.Elements.{All-nil, All-head, All-tail}
-use Rattle.ddr_io.specs.Line.{HasNoFeed, IsNextLine}
+use Rattle.ddr_io.specs.Line.{HasNoFeed, IsNextLine, next_bytes}
 use Rattle.ddr_io.specs.declared.line_reader.Line.TheVariants.{Text, End, TooLong, Unended}
 use Rattle.ddr_text.specs.declared.opening.Front.TheVariants as front
 use Rattle.ddr_text.specs.Front.{IsFront}
-use Rattle.ddr_text.specs.Opening.{Heading, is_feed, parts_of, with_feed, is_long, is_large, after_line, heading_in}
+use Rattle.ddr_text.specs.Opening.{Heading, Refuses, IsUnopened, is_feed, parts_of, with_feed, is_long, is_large, after_line, heading_in, with_heading, opening_of}
 use Rattle.ddr_text.specs.Separator.{Role, Ends, Faulty, Text as TextLine, role_of_line}
 use Rattle.speed_bin.specs.Version.{Figures}
 
@@ -57,11 +57,25 @@ pub continues-start : (bytes : Option (List ℕ)) → Continues bytes [] bytes
 continues-start None = tt
 continues-start (Some bytes) = refl
 
+pub continues-none : (bytes : Option (List ℕ)) (text : List ℕ) → text ≡ [] → Continues bytes text bytes
+continues-none bytes text e = subst (λ t. Continues bytes t bytes) (sym e) (continues-start bytes)
+
+pub taken-start : (bytes : Option (List ℕ)) (text : List ℕ) → text ≡ [] → Consumes bytes bytes text
+taken-start None text e = tt
+taken-start (Some bytes) text e = ap (λ t. t ++ bytes) (sym e)
+
 short : (line : List ℕ) → length line < 512 → is_long line ≡ false
 short line few = le-ltb 511 (length line) (omega (arith, few))
 
 long : (line : List ℕ) → 512 ≤ length line → is_long line ≡ true
 long line many = lt-ltb 511 (length line) (omega (arith, many))
+
+-- whatever follows this much of a header text is judged behind it
+abbrev pub GoesBefore : List ℕ → Type 0
+GoesBefore text = (more : List ℕ) → heading_in [] (parts_of (text ++ more)) ≡ heading_in text (parts_of more)
+
+pub before-start : (text : List ℕ) → text ≡ [] → GoesBefore text
+before-start text e = subst (λ t. GoesBefore t) (sym e) (λ more. refl)
 
 -- behind a line stands another part
 two_parts : (text line rest : List ℕ) → HasNoFeed line → length line < 512
@@ -71,6 +85,35 @@ two_parts text line rest clean few =
     let next = first_part rest in
     let split : slice_split is_feed (with_feed line ++ rest) ≡ line ∷ next.0 ∷ next.1 = line_part line rest clean ∙ ap (λ l. line ∷ l) next.2 in
     rw (split, next.2, short line few) refl
+
+-- the text goes before with one line more
+pub before-line : (text line longer : List ℕ) → longer ≡ text ++ with_feed line → GoesBefore text → HasNoFeed line → length line < 512
+    → role_of_line line ≡ TextLine → is_large (text ++ with_feed line) ≡ false → GoesBefore longer
+before-line text line longer whole before clean few is small = subst (λ t. GoesBefore t) (sym whole) (λ more.
+    ap (λ l. heading_in [] (parts_of l)) (append_assoc text (with_feed line) more)
+    ∙ before (with_feed line ++ more) ∙ two_parts text line more clean few
+    ∙ ap (λ k. after_line text line k (heading_in (text ++ with_feed line) (parts_of more))) is
+    ∙ ap (λ b. if b then Err 17 else heading_in (text ++ with_feed line) (parts_of more)) small)
+
+-- a text with no separator, and then less than a line, opens no job
+one_part : (text held : List ℕ) → HasNoFeed held → heading_in text (parts_of held) ≡ (if is_long held then Err 17 else Err 16)
+unfolding parts_of
+one_part text held clean = ap (heading_in text) (slice_split_none is_feed held (no_feeds held clean))
+
+opens_none : (text held : List ℕ) → GoesBefore text → HasNoFeed held → (reason : ℕ) × (opening_of (text ++ held) ≡ Refuses reason)
+opens_none text held before clean = go (is_long held) (before held ∙ one_part text held clean)
+  where
+    go : (b : Bool) → heading_in [] (parts_of (text ++ held)) ≡ (if b then Err 17 else Err 16) → (reason : ℕ) × (opening_of (text ++ held) ≡ Refuses reason)
+    go true e = (17, ap (with_heading (text ++ held)) e)
+    go false e = (16, ap (with_heading (text ++ held)) e)
+
+pub unopened : (old now left : Option (List ℕ)) (text held : List ℕ) → Consumes old now text → Keeps now (next_bytes held left) → HasNoFeed held → GoesBefore text → IsUnopened old left
+unopened None now left text held taken kept clean before = tt
+unopened (Some bytes) None left text held taken kept clean before = absurd taken
+unopened (Some bytes) (Some rest) None text held taken kept clean before = absurd kept
+unopened (Some bytes) (Some rest) (Some left) text held taken kept clean before =
+    let none = opens_none text held before clean in
+    (text ++ held, none.0, taken ∙ ap (λ l. text ++ l) (sym kept) ∙ sym (append_assoc text held left), none.1)
 
 -- one line more was read
 line_read : (bytes left rest text line : List ℕ) → heading_in [] (parts_of bytes) ≡ heading_in text (parts_of left) → HasNoFeed line → length line < 512

@@ -106,6 +106,12 @@ IsOpening (Some bytes) new (Accepted header text) = (rest : List ℕ) × (openin
 IsOpening (Some bytes) new (Refused reason) = opening_of bytes ≡ Refuses reason
 IsOpening (Some bytes) new Failed = ⊤
 
+-- of the known bytes, those that were taken before these are left open no job
+abbrev pub IsUnopened : Option (List ℕ) → Option (List ℕ) → Type 0
+IsUnopened None left = ⊤
+IsUnopened (Some bytes) None = ⊥
+IsUnopened (Some bytes) (Some left) = (taken : List ℕ) × (reason : ℕ) × (bytes ≡ taken ++ left) × (opening_of taken ≡ Refuses reason)
+
 -- what is known of an answer also where the bytes are not
 abbrev pub IsAnswer : Opening → Type 0
 IsAnswer (Accepted header text) = IsAccepted header × States text header

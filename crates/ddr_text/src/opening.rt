@@ -4,7 +4,7 @@ ghost use Rattle.std.specs.Io.KnownBytes.{Consumes};
 ghost use Rattle.ddr_io.specs.Faults.{Rose};
 ghost use Rattle.ddr_io.specs.Line.{next_bytes};
 ghost use Rattle.speed_bin.specs.Document.{header_stated};
-ghost use Rattle.ddr_text.specs.Opening.{IsOpening, IsAnswer, judged, with_feed, is_large};
+ghost use Rattle.ddr_text.specs.Opening.{IsOpening, IsAnswer, IsUnopened, judged, with_feed, is_large};
 ghost use Rattle.ddr_text.specs.Separator.{Ends, role_of_line};
 ghost use Rattle.ddr_text.specs.Apart.{IsApart, IsApartAnswer, ApartGoesOn};
 ghost use Rattle.ddr_text.specs.Front.{IsFront, GoesOn, FrontGoesOn, HasReason, IsJudged};
@@ -65,8 +65,9 @@ pub fn open_job<S: Source>(
     ensures answer { IfOk result IsAnswer }
     ensures going_on { IfOk result (GoesOn reader.new.last) }
 
-    // Only a fault of the source is told as one.
+    // Only a fault of the source is told as one, and only where the bytes that were taken open no job.
     ensures failed { result ≡ Ok Opening.Failed → Rose (S.faults source.old) (S.faults source.new) }
+    ensures unopened { result ≡ Ok Opening.Failed → IsUnopened (next_bytes reader.old.held (S.left source.old)) (S.left source.new) }
     ensures later { S.faults source.old ≤ S.faults source.new }
     ensures kept { result ≢ Ok Opening.Failed → S.faults source.new ≡ S.faults source.old }
 
@@ -106,8 +107,9 @@ pub fn open_apart<S: Source>(
     ensures answer { IfOk result IsApartAnswer }
     ensures going_on { IfOk result (ApartGoesOn reader.new.last) }
 
-    // Only a fault of the source is told as one.
+    // Only a fault of the source is told as one, and only where the bytes that were taken open no job.
     ensures failed { result ≡ Ok Apart.Failed → Rose (S.faults source.old) (S.faults source.new) }
+    ensures unopened { result ≡ Ok Apart.Failed → IsUnopened (next_bytes reader.old.held (S.left source.old)) (S.left source.new) }
     ensures later { S.faults source.old ≤ S.faults source.new }
     ensures kept { result ≢ Ok Apart.Failed → S.faults source.new ≡ S.faults source.old }
 
@@ -132,6 +134,7 @@ fn read_front<S: Source>(
     ensures reason { IfOk result HasReason }
     ensures going_on { IfOk result (FrontGoesOn reader.new.last) }
     ensures failed { result ≡ Ok Front.Failed → Rose (S.faults source.old) (S.faults source.new) }
+    ensures unopened { result ≡ Ok Front.Failed → IsUnopened (next_bytes reader.old.held (S.left source.old)) (S.left source.new) }
     ensures later { S.faults source.old ≤ S.faults source.new }
     ensures kept { result ≢ Ok Front.Failed → S.faults source.new ≡ S.faults source.old }
     ensures taken { OnErr result ((bytes : List ℕ) × Consumes (next_bytes reader.old.held (S.left source.old)) (next_bytes reader.new.held (S.left source.new)) bytes) }

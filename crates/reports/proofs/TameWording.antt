@@ -156,7 +156,7 @@ tame_of_words (wrote at bytes ∷ changes) line device w = go (line == at) refl
     go : (t : Bool) → (line == at) ≡ t → (t || is_tame changes line device) ≡ true
     go true e = refl
     go false e = tame_of_words changes line device (λ newer between older second first is none_newer none_between.
-    w (wrote at bytes ∷ newer) between older second first (ap (λ (l : List Change). wrote at bytes ∷ l) is) (λ same. let f = eq-eqb line at same in cc, none_newer) none_between)
+        w (wrote at bytes ∷ newer) between older second first (ap (λ (l : List Change). wrote at bytes ∷ l) is) (λ same. let f = eq-eqb line at same in cc, none_newer) none_between)
 tame_of_words (scrubs at ∷ changes) line device w =
     tame_of_words changes line device (λ newer between older second first is none_newer none_between.
     w (scrubs at ∷ newer) between older second first (ap (λ (l : List Change). scrubs at ∷ l) is) none_newer none_between)

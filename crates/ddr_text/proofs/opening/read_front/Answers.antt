@@ -1,10 +1,10 @@
-use Rattle.std.proofs.Common.{◌≡◌, ◌≤◌, ◌++◌, if◌then◌else◌, false, true, length, sym, ap, ◌∙◌, subst, arith}
+use Rattle.std.proofs.Common.{◌≡◌, ◌≤◌, ◌++◌, if◌then◌else◌, false, true, length, refl, sym, ap, ◌∙◌, subst, arith}
 use Rattle.std.proofs.KnownBytes.{Consumes-trans}
 use Rattle.std.specs.Io.KnownBytes.{Consumes}
 use Rattle.ddr_text.specs.Opening.{with_feed, is_large}
 use Rattle.ddr_text.specs.Seen.{seen_role}
 use Rattle.ddr_text.specs.Separator.{Ends, Faulty, Text, role_of_line}
-use Rattle.ddr_text.proofs.OpeningLines.{found_separator, faulty, too_much, continues-line, too_long, at_end, unended, within, taken-line}
+use Rattle.ddr_text.proofs.OpeningLines.{taken-start, continues-none, before-start, before-line, unopened, found_separator, faulty, too_much, continues-line, too_long, at_end, unended, within, taken-line}
 use Rattle.ddr_text.proofs.opening.read_front.Goals as goal
 
 pub returns-in_err-push_line-in-Ends-clause-taken : goal.returns-in_err-push_line-in-Ends-clause-taken
@@ -56,6 +56,7 @@ loop-reader-preserved g c =
     let more : c.push_line-in-Text-role_of.new.self ≡ c.loop-reader.text ++ with_feed line = c.in_ok-push_line-in-Text-role_of.ensures ∙ ap (λ l. c.loop-reader.text ++ with_feed l) c.line-line.ensures in record {
       taken = subst (Consumes _ _) (sym more) (Consumes-trans _ _ _ c.loop-reader.text (with_feed line) held.taken next.2);
       continues = continues-line _ _ _ c.loop-reader.text line c.push_line-in-Text-role_of.new.self more held.continues next is small;
+      before = before-line c.loop-reader.text line c.push_line-in-Text-role_of.new.self more held.before next.1 next.0 is small;
       few = subst (λ t. length t ≤ 65536) (sym more) (within (c.loop-reader.text ++ with_feed line) small);
       going_on = c.in-Text.ensures.last;
       counted = grind (arith, held.counted, c.in-Text.ensures.kept);
@@ -75,3 +76,18 @@ pub returns-in-Unended-clause-front : goal.returns-in-Unended-clause-front
 returns-in-Unended-clause-front g c =
     let held = c.loop-reader.invariant in
     unended _ _ _ _ c.loop-reader.text c.next_line.new.self.line held.continues (c.in-Unended.ensures.found held.going_on)
+
+pub loop-reader-init : goal.loop-reader-init
+loop-reader-init g c = record {
+  taken = taken-start _ _ c.new-text.ensures;
+  continues = continues-none _ _ c.new-text.ensures;
+  before = before-start _ c.new-text.ensures;
+  few = subst (λ t. length t ≤ 65536) (sym c.new-text.ensures) (omega arith);
+  going_on = c.requires;
+  counted = refl;
+}
+
+pub returns-in-Failed-clause-unopened : goal.returns-in-Failed-clause-unopened
+returns-in-Failed-clause-unopened g c = λ e.
+    let held = c.loop-reader.invariant in
+    unopened _ _ (g.S.Source.left c.next_line.new.source) c.loop-reader.text c.next_line.new.self.held held.taken (c.in-Failed.ensures.found held.going_on) (c.in-Failed.ensures.unfed held.going_on refl) held.before
