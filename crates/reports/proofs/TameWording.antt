@@ -74,11 +74,11 @@ tame_in_words changes line device h = λ newer between older second first is non
     let rest : List Change = between ++ (turns line device first ∷ older) in
     let k = older_tame line device newer (turns line device second ∷ rest) none_newer (subst (λ (l : List Change). is_tame l line device ≡ true) is h) in
     let zero_is : (turns_since rest line device == 0) ≡ true = none_before (line == line && device == device) (turns_since rest line device == 0) (own line device) (both (is_tame rest line device) _ k).1 in
-    go between (scrubbed_or_counts line device first between older none_between) (eqb-true (turns_since rest line device) 0 zero_is)
+    go between rest (scrubbed_or_counts line device first between older none_between) (eqb-true (turns_since rest line device) 0 zero_is)
   where
-    go : (between : List Change) {rest : List Change} → SomeScrubs line between ⊎ Counts line device rest → turns_since rest line device ≡ 0 → SomeScrubs line between
-    go between (inl s) e = s
-    go between (inr c) e = absurd (c e)
+    go : (between rest : List Change) → SomeScrubs line between ⊎ Counts line device rest → turns_since rest line device ≡ 0 → SomeScrubs line between
+    go between rest (inl s) e = s
+    go between rest (inr c) e = absurd (c e)
 
 -- ---- From words to tests
 
@@ -151,12 +151,13 @@ turn_step false tame b e h = rw e refl
 
 pub tame_of_words : (changes : List Change) (line device : ℕ) → IsTameInWords changes line device → is_tame changes line device ≡ true
 tame_of_words [] line device w = refl
-tame_of_words (wrote at bytes ∷ changes) line device w = go (line == at) refl
+tame_of_words (wrote at bytes ∷ changes) line device w =
+    go (line == at) refl (λ e. tame_of_words changes line device (λ newer between older second first is none_newer none_between.
+        w (wrote at bytes ∷ newer) between older second first (ap (λ (l : List Change). wrote at bytes ∷ l) is) (λ same. let f = eq-eqb line at same in cc, none_newer) none_between))
   where
-    go : (t : Bool) → (line == at) ≡ t → (t || is_tame changes line device) ≡ true
-    go true e = refl
-    go false e = tame_of_words changes line device (λ newer between older second first is none_newer none_between.
-        w (wrote at bytes ∷ newer) between older second first (ap (λ (l : List Change). wrote at bytes ∷ l) is) (λ same. let f = eq-eqb line at same in cc, none_newer) none_between)
+    go : (t : Bool) → (line == at) ≡ t → ((line == at) ≡ false → is_tame changes line device ≡ true) → (t || is_tame changes line device) ≡ true
+    go true e rest = refl
+    go false e rest = rest e
 tame_of_words (scrubs at ∷ changes) line device w =
     tame_of_words changes line device (λ newer between older second first is none_newer none_between.
     w (scrubs at ∷ newer) between older second first (ap (λ (l : List Change). scrubs at ∷ l) is) none_newer none_between)
