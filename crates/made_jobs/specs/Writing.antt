@@ -1,5 +1,5 @@
 -- What a call has written of a piece, by its answer.
-use Rattle.std.specs.Prelude.{ℕ, List, ⊤}
+use Rattle.std.specs.Prelude.{ℕ, ◌≡◌, List}
 use Rattle.std.specs.declared.option.Option.{Option}
 use Rattle.std.specs.Io.KnownBytes.{Appends}
 use Rattle.ddr_io.specs.Faults.{Rose}
@@ -19,7 +19,7 @@ Writes status.Usage before after piece = ⊥
 Writes status.ReadFault before after piece = ⊥
 Writes status.Broken before after piece = ⊥
 
--- the cause of a stop, by the sink's count of faults before and after
+-- the cause of a stop, by the sink's count of faults before and after: a fault that was counted, or want of memory
 abbrev pub WriteCause : ℕ → ℕ → Stop → Type 0
 WriteCause before after WriteFault = Rose before after
-WriteCause before after OutOfMemory = ⊤
+WriteCause before after OutOfMemory = after ≡ before

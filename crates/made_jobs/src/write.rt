@@ -1,5 +1,5 @@
 //! Writes a made job.
-ghost use Rattle.std.specs.Prelude.{◌≡◌, ◌<◌, ◌≤◌, OnOk, IfErr, length};
+ghost use Rattle.std.specs.Prelude.{◌≡◌, ◌≢◌, ◌<◌, ◌≤◌, OnOk, IfErr, length};
 ghost use Rattle.std.specs.Io.KnownBytes.{Appends};
 ghost use Rattle.ddr_io.specs.Faults.{Rose};
 ghost use Rattle.ddr_io.specs.Sink.{AppendsPrefix};
@@ -29,6 +29,7 @@ pub fn write_job<K: Sink>(seed: u64, requests: u64, sink: &mut K) -> Status
     ensures bytes { Writes result (K.written sink.old) (K.written sink.new) (made seed requests) }
     ensures later { K.faults sink.old ≤ K.faults sink.new }
     ensures fault { result ≡ Status.WriteFault → Rose (K.faults sink.old) (K.faults sink.new) }
+    ensures kept { result ≢ Status.WriteFault → K.faults sink.new ≡ K.faults sink.old }
 {
     match put_job(seed, requests, sink) {
         Ok(()) => Status::Ok,
@@ -42,6 +43,7 @@ fn put_job<K: Sink>(seed: u64, requests: u64, sink: &mut K) -> Result<(), Stop>
     ensures cut { IfErr result (λ stop. AppendsPrefix (K.written sink.old) (K.written sink.new) (made seed requests)) }
     ensures later { K.faults sink.old ≤ K.faults sink.new }
     ensures cause { IfErr result (WriteCause (K.faults sink.old) (K.faults sink.new)) }
+    ensures kept { OnOk result (K.faults sink.new ≡ K.faults sink.old) }
 {
     put(OPENING, sink)?;
     let mut generator = Generator::new(seed);
@@ -59,6 +61,7 @@ fn put_line<K: Sink>(line: &TraceLine, sink: &mut K) -> Result<(), Stop>
     ensures cut { IfErr result (λ stop. AppendsPrefix (K.written sink.old) (K.written sink.new) (spelled_line line.now)) }
     ensures later { K.faults sink.old ≤ K.faults sink.new }
     ensures cause { IfErr result (WriteCause (K.faults sink.old) (K.faults sink.new)) }
+    ensures kept { OnOk result (K.faults sink.new ≡ K.faults sink.old) }
 {
     let mut text = ArrayVec::new();
     write_trace_line(line, &mut text);
@@ -72,6 +75,7 @@ fn put<K: Sink>(piece: &[u8], sink: &mut K) -> Result<(), Stop>
     ensures cut { IfErr result (λ stop. AppendsPrefix (K.written sink.old) (K.written sink.new) piece.now) }
     ensures later { K.faults sink.old ≤ K.faults sink.new }
     ensures cause { IfErr result (WriteCause (K.faults sink.old) (K.faults sink.new)) }
+    ensures kept { OnOk result (K.faults sink.new ≡ K.faults sink.old) }
 {
     match put_all(sink, piece) {
         Put::Took(_) => Ok(()),

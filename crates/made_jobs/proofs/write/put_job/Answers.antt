@@ -1,4 +1,4 @@
-use Rattle.std.proofs.Common.{List, ℕ, arith, subst, sym}
+use Rattle.std.proofs.Common.{◌∙◌, List, ℕ, arith, subst, sym}
 use Rattle.std.specs.Io.KnownBytes.{Appends}
 use Rattle.ddr_io.specs.Sink.{AppendsPrefix}
 use Rattle.made_jobs.specs.Made.{Drawing}
@@ -12,13 +12,13 @@ returns-in_err-put-clause-cut g c =
 pub lines-init : goal.lines-init
 lines-init g c = record {
   written = subst (λ (d : Drawing). Written c.args.seed c.args.requests 0 d (g.K.Sink.written c.args.sink.now) (g.K.Sink.written c.put.new.sink)) (sym c.new-generator.ensures) (written-none c.args.seed c.args.requests (g.K.Sink.written c.args.sink.now) (g.K.Sink.written c.put.new.sink) (subst (λ (piece : List ℕ). Appends (g.K.Sink.written c.args.sink.now) (g.K.Sink.written c.put.new.sink) piece) opening_is c.in_ok-put.ensures.whole));
-  later = c.put.ensures.later;
+  counted = c.in_ok-put.ensures.kept;
 }
 
 pub lines-preserved : goal.lines-preserved
 lines-preserved g c = record {
   written = written-more c.args.seed c.args.requests _ _ _ _ _ _ _ c.lines.invariant.written c.next_request-line.ensures.request c.next_request-line.ensures.behind c.in_ok-put_line.ensures.whole;
-  later = omega (arith, c.lines.invariant.later, c.put_line.ensures.later);
+  counted = c.in_ok-put_line.ensures.kept ∙ c.lines.invariant.counted;
 }
 
 pub returns-in_err-put_line-clause-cut : goal.returns-in_err-put_line-clause-cut
