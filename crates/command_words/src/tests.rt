@@ -69,15 +69,15 @@ fn a_line_has_its_place_in_four_groups(rt: HostRuntime) -> Result<(), Fail> {
     assert_eq!(rt; shape.lines(), 67_108_864);
     let line = LineAddr::new(67_108_863, shape).ok_or("line")?;
     let place = map_line(line, shape);
-    assert_eq!(rt; place.bank.group.get(), 3);
-    assert_eq!(rt; place.bank.address.get(), 3);
-    assert_eq!(rt; place.column.get(), 63);
+    // group 3, address 3
+    assert_eq!(rt; place.bank.number(), 15);
     assert_eq!(rt; place.row.get(), 65535);
+    assert_eq!(rt; place.column.get(), 63);
     let line = LineAddr::new(1024, shape).ok_or("line")?;
     let place = map_line(line, shape);
     assert_eq!(rt; place.bank.number(), 0);
-    assert_eq!(rt; place.column.get(), 0);
     assert_eq!(rt; place.row.get(), 1);
+    assert_eq!(rt; place.column.get(), 0);
     assert_eq!(rt; unmap(place, shape).get(), 1024);
     assert!(rt; LineAddr::new(67_108_864, shape).is_none());
     Ok(())
