@@ -1,11 +1,11 @@
 -- Counters that stand for a bank in a log stand for it one place later.
-use Rattle.std.proofs.Common.{◌-◌, ◌≡◌, ◌∙◌, ℕ, suc, ◌+◌, ◌^◌, ◌<◌, ◌≤◌, true, false, nat_le, refl, arith, Option, Some, None, List, [], ◌∷◌, length, length-set}
+use Rattle.std.proofs.Common.{◌-◌, ◌≡◌, ◌∙◌, ℕ, suc, ◌+◌, ◌^◌, ◌<◌, ◌≤◌, Bool, true, false, cond, nat_le, nat_lt, ltb-true, refl, ap, arith, Option, Some, None, is_some, List, [], ◌∷◌, length, set, get_or, get_or-set_same, length-set}
 use Rattle.std.proofs.lemmas.List.{length-replicate}
 use Rattle.std.proofs.Math.Logic.{∥∥₁_elim, ∥∥₁_prop}
 use native.Mathlib.Bridge.{le_prop}
 use Rattle.command_words.specs.declared.command.Command.{Command}
 use Rattle.row_order.specs.Entries.{Entry, rising, count_in, changed, IsFirstGreatest}
-use Rattle.row_order.specs.Standing.{StandsFor as OrderStandsFor}
+use Rattle.row_order.specs.Standing.{Held as Order, StandsFor as OrderStandsFor}
 use Rattle.row_order.proofs.EntryLemmas.{once_inside}
 use Rattle.speed_bin.specs.declared.header.Header.{Header}
 use Rattle.speed_bin.specs.declared.settings.Settings.{Settings}
@@ -17,7 +17,8 @@ use Rattle.speed_bin.specs.Height.{height_of}
 use Rattle.speed_bin.specs.Version.{Figures, IsVersion}
 use Rattle.std.proofs.lemmas.Bool.Decides.{nat_tests}
 use Rattle.row_counts.specs.Held.{Held, MayClose, MayMitigate, HasRow, IsOneMore}
-use Rattle.row_counts.specs.Standing.{StandsFor}
+use Rattle.row_counts.specs.Standing.{StandsFor, among, row_changed, changed_at, changes_in, stamp_of}
+use Rattle.row_counts.proofs.CounterOrder.{unused}
 use Rattle.row_counts.proofs.ListLemmas.{count_is, list_later, list_changed, list_fresh, IsTracked, list_tracked}
 
 -- a bank's counters are as many as its rows
@@ -55,8 +56,51 @@ stands_fresh s it h b ath eth rows levels none stands same = record {
   list = rising s.rows;
   stands = stands;
   counters = rw same (list_fresh s.rows);
-  changes = omega arith;
+  changes = none;
+  met = tt;
 }
+
+-- ---- Which places change a counter
+
+in_range : (row rows : ℕ) → row < rows → nat_lt row rows ≡ true
+in_range row rows low = grind (arith, nat_tests)
+
+among_its : (row rows : ℕ) → row < rows → among rows (Some row) ≡ Some row
+among_its row rows low = rw (in_range row rows low) refl
+
+-- a place that leaves the counters changes none: a change has the number of its place as the row's stamp
+unmoved : (cs : List Counter) (m row count : ℕ) → ((r : ℕ) → stamp_of cs r ≤ m) → set cs row (record { count = count; stamp = suc m }) ≡ cs → among (length cs) (Some row) ≡ None
+unmoved cs m row count low same = go (nat_lt row (length cs)) refl
+  where
+    go : (t : Bool) → nat_lt row (length cs) ≡ t → cond t (Some row) None ≡ None
+    go false e = refl
+    go true e =
+        let inside : row < length cs = ltb-true _ _ e in
+        let here : get_or (set cs row (record { count = count; stamp = suc m })) row unused ≡ record { count = count; stamp = suc m } = get_or-set_same cs row (record { count = count; stamp = suc m }) unused inside in
+        let new : stamp_of (set cs row (record { count = count; stamp = suc m })) row ≡ suc m = ap (λ (c : Counter). c.stamp) here in
+        let old : stamp_of (set cs row (record { count = count; stamp = suc m })) row ≡ stamp_of cs row = ap (λ (ds : List Counter). stamp_of ds row) same in
+        let l = low row in
+        absurd (omega (arith, new, old, l))
+
+no_change : (h : Header) (m : ℕ) (e : Effect) (opened : Option ℕ) (cs : List Counter) → ((r : ℕ) → stamp_of cs r ≤ m) → counters_after h (suc m) e opened cs ≡ cs → row_changed h e opened cs ≡ None
+no_change h m (Opens row) opened cs low same = refl
+no_change h m Refreshes opened cs low same = refl
+no_change h m Leaves opened cs low same = refl
+no_change h m Closes None cs low same = refl
+no_change h m Closes (Some row) cs low same = unmoved cs m row (count_of cs row + 1) low same
+no_change h m Manages opened cs low same = go (mitigated h Manages cs) same
+  where
+    go : (row : Option ℕ) → after_mitigation (suc m) row cs ≡ cs → among (length cs) row ≡ None
+    go None e = refl
+    go (Some row) e = unmoved cs m row 0 low e
+
+few_changes : (h : Header) (b : ℕ) (log : Log) → changes_in h b log ≤ length log
+few_changes h b [] = omega arith
+few_changes h b (place ∷ log) = go (is_some (changed_at h b place.command log)) (few_changes h b log)
+  where
+    go : (t : Bool) → changes_in h b log ≤ length log → cond t 1 0 + changes_in h b log ≤ suc (length log)
+    go true low = omega arith
+    go false low = omega arith
 
 -- ---- What is read of them
 
@@ -100,7 +144,7 @@ some_mitigated it h b row count log row_is is high s =
 
 pub may_mitigate : (it : Held) (h : Header) (b : ℕ) (log : Log) → StandsFor it h b log → length log < 2 ^ 48 → it.changes < 2 ^ 48
 unfolding StandsFor
-may_mitigate it h b log s short = let few = s.changes in omega arith
+may_mitigate it h b log s short = let exact = s.changes in let few = few_changes h b log in omega (arith, exact, few, short)
 
 pub may_close : (it : Held) (h : Header) (b row : ℕ) (log : Log) → StandsFor it h b log → row < h.settings.rows → cnt h b row log < bound h → length log < 2 ^ 48 → MayClose it row
 unfolding StandsFor
@@ -139,11 +183,15 @@ row_by_some it row has = ∥∥₁_elim has le_prop (λ m. m)
 
 -- ---- One place later
 
-pub stands_close : (it new : Held) (h : Header) (b row clock : ℕ) (command : Command) (log : Log) → IsOneMore it new → row < it.order.rows
+-- the law that a row has the same count in each list that an order stands for
+abbrev pub SameCounts : Type 0
+SameCounts = (it : Order) (row : ℕ) (list other : List Entry) → row < it.rows → OrderStandsFor it list → OrderStandsFor it other → count_in list row ≡ count_in other row
+
+pub stands_close : (law : SameCounts) (it new : Held) (h : Header) (b row clock : ℕ) (command : Command) (log : Log) → IsOneMore it new → MayClose it row
     → ((es : List Entry) → OrderStandsFor it.order es → OrderStandsFor new.order (changed row (count_in es row + 1) es))
     → StandsFor it h b log → effect b command ≡ Closes → open_at b log ≡ Some row → StandsFor new h b (record { clock = clock; command = command } ∷ log)
 unfolding StandsFor
-stands_close it new h b row clock command log more low raised s e opened = record {
+stands_close law it new h b row clock command log more may raised s e opened = record {
   ath = more.ath ∙ s.ath;
   eth = more.eth ∙ s.eth;
   rows = more.rows ∙ s.rows;
@@ -151,29 +199,42 @@ stands_close it new h b row clock command log more low raised s e opened = recor
   list = changed row (count_in s.list row + 1) s.list;
   stands = raised s.list s.stands;
   counters = rw (e, opened, ← count) (list_changed (counters h b log) (length log) row (count_in s.list row + 1) s.list some s.counters);
-  changes = let few = s.changes in let m = more.changes in omega arith;
+  changes = rw (e, opened, in_range row (length (counters h b log)) some) (let exact = s.changes in let m = more.changes in omega (arith, exact, m));
+  met = rw (e, opened, in_range row (length (counters h b log)) some) (s.met, ((let exact = s.changes in let few = may.changes in omega (arith, exact, few)), (λ closes. below)));
 }
   where
     some : row < length (counters h b log)
-    some = let rows = s.rows in let l = long h b log in omega arith
+    some = let rows = s.rows in let low = may.inside in let l = long h b log in omega arith
 
     count : count_in s.list row ≡ count_of (counters h b log) row
     count = count_is (counters h b log) row s.list s.counters.counts (let o = once_inside (length (counters h b log)) row s.list s.counters.once some in omega arith)
 
-pub stands_mitigate : (it new : Held) (h : Header) (b row clock : ℕ) (command : Command) (log : Log) → IsOneMore it new → row < it.order.rows
+    below : count_of (counters h b log) row < bound h
+    below = ∥∥₁_elim may.below le_prop (λ p.
+        let same = law it.order row p.0 s.list may.inside p.1 s.stands in
+        let level = p.2 in
+        let levels = s.levels in
+        let is = count in
+        omega (arith, same, level, levels, is))
+
+pub stands_mitigate : (it new : Held) (h : Header) (b row clock : ℕ) (command : Command) (log : Log) → IsOneMore it new → row < it.order.rows → MayMitigate it
     → ((es : List Entry) → OrderStandsFor it.order es → OrderStandsFor new.order (changed row 0 es))
     → Some row ≡ mitigated h Manages (counters h b log) → StandsFor it h b log → effect b command ≡ Manages → StandsFor new h b (record { clock = clock; command = command } ∷ log)
 unfolding StandsFor
-stands_mitigate it new h b row clock command log more low cleared took s e = record {
+stands_mitigate it new h b row clock command log more low few cleared took s e = record {
   ath = more.ath ∙ s.ath;
   eth = more.eth ∙ s.eth;
   rows = more.rows ∙ s.rows;
   levels = more.levels ∙ s.levels;
   list = changed row 0 s.list;
   stands = cleared s.list s.stands;
-  counters = rw (e, ← took) (list_changed (counters h b log) (length log) row 0 s.list (let rows = s.rows in let l = long h b log in omega arith) s.counters);
-  changes = let few = s.changes in let m = more.changes in omega arith;
+  counters = rw (e, ← took) (list_changed (counters h b log) (length log) row 0 s.list some s.counters);
+  changes = rw (e, ← took, in_range row (length (counters h b log)) some) (let exact = s.changes in let m = more.changes in omega (arith, exact, m));
+  met = rw (e, ← took, in_range row (length (counters h b log)) some) (s.met, ((let exact = s.changes in omega (arith, exact, few)), (λ closes. absurd (cc))));
 }
+  where
+    some : row < length (counters h b log)
+    some = let rows = s.rows in let l = long h b log in omega arith
 
 -- a place that neither closes a row of the bank nor manages it
 pub stands_same : (it : Held) (h : Header) (b clock : ℕ) (command : Command) (log : Log) → StandsFor it h b log → counters h b (record { clock = clock; command = command } ∷ log) ≡ counters h b log → StandsFor it h b (record { clock = clock; command = command } ∷ log)
@@ -186,8 +247,12 @@ stands_same it h b clock command log s same = record {
   list = s.list;
   stands = s.stands;
   counters = rw same (list_later (counters h b log) (length log) (suc (length log)) s.list (omega arith) s.counters);
-  changes = let few = s.changes in omega arith;
+  changes = rw still (let exact = s.changes in omega (arith, exact));
+  met = rw still (s.met, tt);
 }
+  where
+    still : changed_at h b command log ≡ None
+    still = no_change h (length log) (effect b command) (open_at b log) (counters h b log) s.counters.stamps same
 
 -- a mitigation of a bank whose tracked row has a count below ETH
 pub stands_spared : (it : Held) (h : Header) (b clock : ℕ) (command : Command) (log : Log) → None ≡ mitigated h Manages (counters h b log) → StandsFor it h b log → effect b command ≡ Manages → StandsFor it h b (record { clock = clock; command = command } ∷ log)

@@ -13,7 +13,7 @@ ghost use Rattle.row_counts.specs.Standing.{StandsFor};
 use crate::height;
 use command_words::Row;
 use ddr_io::OutOfMemory;
-use row_order::{RowOrder, stands};
+use row_order::{RowOrder, same_counts, stands};
 use speed_bin::{Settings, Version};
 use std::alloc::Global;
 use std::marker::Model;
@@ -72,6 +72,7 @@ impl BankCounts {
             → effect b command ≡ Closes → open_at b log ≡ Some row
             → StandsFor self.new h b (record { clock = clock; command = command } ∷ log) }
     {
+        same_counts();
         self.changes += 1;
         self.order.raise(row);
     }

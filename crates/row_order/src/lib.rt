@@ -7,7 +7,7 @@ mod links;
 mod order;
 mod pointers;
 
-pub use order::{RowOrder, stands};
+pub use order::{RowOrder, same_counts, stands};
 
 #[cfg(test)]
 mod tests;

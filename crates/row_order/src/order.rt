@@ -4,7 +4,7 @@ ghost use Rattle.row_order.specs.Entries.{Entry, IsFirstGreatest, changed, count
 ghost use Rattle.row_order.specs.Marks.{mark_of};
 ghost use Rattle.row_order.specs.Nodes.{next_in};
 ghost use Rattle.row_order.specs.declared.pointers.Node.{Node as NodeValue};
-ghost use Rattle.row_order.specs.Standing.{MayRaise, StandsFor, StandsForSome};
+ghost use Rattle.row_order.specs.Standing.{Held, MayRaise, StandsFor, StandsForSome};
 
 use crate::levels::LevelSet;
 use crate::links::Links;
@@ -107,6 +107,11 @@ pub fn stands(order: &RowOrder)
 {
     let _links = &order.links;
 }
+
+/// A law: a row has the same count in each list that a row order stands for.
+pub fn same_counts()
+    ensures { (it : Held) (row : ℕ) (list other : List Entry) → row < it.rows → StandsFor it list → StandsFor it other → count_in list row ≡ count_in other row }
+{}
 
 // A level whose bucket is empty is no longer one in use.
 fn forget_if_empty(links: &Links, used: &mut LevelSet, level: u32)

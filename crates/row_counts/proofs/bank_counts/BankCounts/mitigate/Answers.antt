@@ -21,5 +21,6 @@ pub returns-clause-log : goal.returns-clause-log
 returns-clause-log c = λ h b clock command log stands manages.
     let held = rw (← c.self.view_is) at stands in
     let inside = rw (← c.self.view_is) at c.tracked-row.ensures.inside in
-    stands_mitigate _ _ h b c.tracked-row.result.0 clock command log (record { ath = refl; eth = refl; rows = c.clear.ensures.sizes.0; levels = c.clear.ensures.sizes.1; changes = refl }) inside c.clear.ensures.list
+    let may = rw (← c.self.view_is) at c.requires in
+    stands_mitigate _ _ h b c.tracked-row.result.0 clock command log (record { ath = refl; eth = refl; rows = c.clear.ensures.sizes.0; levels = c.clear.ensures.sizes.1; changes = refl }) inside may c.clear.ensures.list
     (some_mitigated _ h b c.tracked-row.result.0 c.tracked-row.result.1 log (c.tracked-row.ensures.log h b log stands) (c.tracked-row.ensures.count_of_log h b log stands) c.if-count-self.false held) held manages
