@@ -1,3 +1,4 @@
 pub mod ChangeLemmas
 pub mod WordKinds
+pub mod Wording
 pub mod ZeroWords

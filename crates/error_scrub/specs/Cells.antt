@@ -3,7 +3,7 @@ use Rattle.std.specs.Prelude.{ℕ, ◌≡◌, ◌≢◌, ◌<◌, ◌+◌, ◌*�
 use Rattle.std.specs.declared.option.Option.{Option}
 use Rattle.std.specs.Ordering.{nat_cmp}
 use Rattle.std.specs.BTreeMap.{get}
-use Rattle.command_words.specs.Geometry.{Shape}
+use Rattle.command_words.specs.Geometry.{Shape, lines_of}
 use Rattle.ondie_ecc.specs.declared.codeword.Codeword.{Codeword}
 use Rattle.ondie_ecc.specs.Bits.{turned}
 use Rattle.ondie_ecc.specs.Codeword.{codeword_of}
@@ -29,8 +29,9 @@ stored cells line device = word_in (get nat_cmp cells.kept line) device
 unfoldable pub cells_shape : Cells → Shape
 cells_shape cells = cells.geometry
 
--- the words of a line become these, and those of each other line stay
+-- the words of a line, which is one of theirs, become these, and those of each other line stay
 pub record ChangesLine (old new : Cells) (line : ℕ) (words : ℕ → List ℕ) : Type 0 where
+  pub inside : line < lines_of (cells_shape old)
   pub shape : cells_shape new ≡ cells_shape old
   pub changed : (device : ℕ) → device < 4 → stored new line device ≡ words device
   pub others : (other device : ℕ) → other ≢ line → stored new other device ≡ stored old other device

@@ -1,5 +1,6 @@
 //! The stored lines, each as four codewords.
 ghost use Rattle.std.specs.Prelude.{◌≡◌, ◌≢◌, ◌<◌, ◌≤◌, ◌+◌, ◌*◌, ℕ, [], ◌∷◌, ◌++◌, OnOk, OnErr, take, drop, slice_index_or, slice_range};
+ghost use Rattle.command_words.specs.Geometry.{lines_of};
 ghost use Rattle.command_words.specs.Place.{line_of, IsInside};
 
 use crate::words::{Faults, joined, mend, protected, read_word, worse};
@@ -89,6 +90,7 @@ impl Cells {
 
     /// Repairs the four codewords of a line: the fixed ones are written back, the lost ones stay.
     pub(crate) fn scrub_line(&mut self, line: u32) -> Faults
+        requires { line < lines_of (cells_shape self.old) }
         ensures line { ChangesLine self.old self.new line (scrubbed self.old line) }
         ensures fixed { result.fixed ≡ fixed_in (words_at self.old line) }
         ensures lost { result.lost ≡ lost_in (words_at self.old line) }
@@ -112,6 +114,7 @@ impl Cells {
 
     // The line has these codewords from now on.
     fn keep(&mut self, line: u32, words: [Codeword; 4]) -> Result<(), OutOfMemory>
+        requires { line < lines_of (cells_shape self.old) }
         ensures ok { OnOk result (ChangesLine self.old self.new line (λ device. (slice_index_or words device (record { 0 = [] })).0)) }
         ensures err { OnErr result (IsUnchanged self.old self.new) }
         ensures shape { cells_shape self.new ≡ cells_shape self.old }

@@ -12,6 +12,7 @@ returns-in-None-clause-line c =
     let same = c.get_mut.follows.holds-at-none in
     let none = c.in-None.ensures.value in
     record {
+      inside = c.requires;
       shape = refl;
       changed = λ device near.
           ap (λ (k : BTreeMap ℕ (List Codeword)). word_in (get nat_cmp k c.args.line) device) same
