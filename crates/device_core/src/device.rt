@@ -57,8 +57,8 @@ impl Device {
     }
 
     /// Carries out at the clock the command that the words spell, with the bytes of a WR. The command is legal after the
-    /// device's list: its row is one of the header's, and all fourteen rules of `docs/RULES.md` hold. Only a WR takes
-    /// memory; where there is none, the device is as it was.
+    /// device's list: its row and its bank group are the header's, and all fourteen rules of `docs/RULES.md` hold. Only
+    /// a WR takes memory; where there is none, the device is as it was.
     pub fn step(
         &mut self,
         clock: u64,
