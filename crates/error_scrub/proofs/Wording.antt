@@ -1,5 +1,5 @@
 -- The counts of a scrub, and a stored word, equal what their wording says of the steps and the changes.
-use Rattle.std.proofs.Common.{◌≡◌, ◌≢◌, ◌∙◌, ℕ, zero, suc, ◌+◌, ◌-◌, ◌*◌, ◌/◌, ◌%◌, ◌<◌, ◌≤◌, ◌⊎◌, ◌==◌, inl, inr, Bool, true, false, not, ◌&&◌, if◌then◌else◌, cond, max, nat_lt, refl, sym, ap, subst, arith, mul-le-mul, Option, Some, None, List, [], ◌∷◌, ◌++◌, length, filter, find, fold, take_while}
+use Rattle.std.proofs.Common.{◌≡◌, ◌≢◌, ◌∙◌, ℕ, suc, ◌+◌, ◌-◌, ◌*◌, ◌/◌, ◌%◌, ◌<◌, ◌≤◌, ◌⊎◌, ◌==◌, inl, inr, Bool, true, false, not, ◌&&◌, if◌then◌else◌, cond, max, nat_lt, refl, sym, ap, subst, arith, mul-le-mul, Option, Some, None, List, [], ◌∷◌, length, filter, find, fold, take_while}
 use Rattle.std.specs.Prelude.{reverse}
 use Rattle.std.proofs.Math.Nat.{div-lt_iff_lt-mul, div-mul-le_self, lt-div-mul-add, mod-eq-sub-div-mul, add-mul-mod_self_right, add-mul-div_right, mod-eq_of_lt, div-eq_of_lt, mod-lt}
 use Rattle.std.proofs.lemmas.Nat.{div-add-mod'}

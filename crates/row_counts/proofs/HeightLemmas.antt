@@ -1,5 +1,5 @@
 -- The powers that `height` computes fit into 128 bits, and a height is small.
-use Rattle.std.proofs.Common.{refl, ◌-◌, ◌∙◌, ◌≡◌, ◌+◌, ℕ, zero, suc, Bool, true, false, cond, nat_le, ◌*◌, ◌^◌, ◌<◌, ◌≤◌, arith, pow-suc, mul-le-mul, lit<}
+use Rattle.std.proofs.Common.{refl, ◌-◌, ◌≡◌, ℕ, zero, suc, Bool, true, false, cond, nat_le, ◌*◌, ◌^◌, ◌<◌, ◌≤◌, arith, pow-suc, mul-le-mul, lit<}
 use Rattle.std.proofs.Math.Nat.{pow-zero, pow-le-pow_right, pow-le-pow_left}
 use Rattle.speed_bin.specs.Height.{greatest_upto, height_of}
 

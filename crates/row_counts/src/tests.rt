@@ -96,8 +96,9 @@ fn close_each(counts: &mut BankCounts, bound: u32, settings: &Settings, rows: &[
 {
     for number in rows {
         match Row::new(*number) {
-            Some(row) if row.get() < settings.rows && counts.count(row) < bound =>
-                counts.close(row),
+            Some(row) if row.get() < settings.rows && counts.count(row) < bound => counts.close(
+                row,
+            ),
             _ => return false,
         }
     }
@@ -107,7 +108,9 @@ fn close_each(counts: &mut BankCounts, bound: u32, settings: &Settings, rows: &[
 #[test]
 fn one_row_is_hot_at_the_fifth_closing(rt: HostRuntime) -> Result<(), Fail> {
     let row = Row::new(0).ok_or("row")?;
-    let mut counts = BankCounts::new(rt.alloc(), &ONE_ROW, Version::plain()).ok().ok_or("memory")?;
+    let mut counts = BankCounts::new(rt.alloc(), &ONE_ROW, Version::plain())
+        .ok()
+        .ok_or("memory")?;
     assert!(rt; close_each(&mut counts, 8, &ONE_ROW, &[0, 0, 0, 0]));
     assert_eq!(rt; counts.count(row), 4);
     assert!(rt; !counts.hot());
@@ -129,7 +132,9 @@ fn one_row_is_hot_at_the_fifth_closing(rt: HostRuntime) -> Result<(), Fail> {
 fn two_activations_a_cycle(rt: HostRuntime) -> Result<(), Fail> {
     let row = Row::new(0).ok_or("row")?;
     let version = Version::new(2, 4).ok_or("version")?;
-    let mut counts = BankCounts::new(rt.alloc(), &ONE_ROW_AT_THREE, version).ok().ok_or("memory")?;
+    let mut counts = BankCounts::new(rt.alloc(), &ONE_ROW_AT_THREE, version)
+        .ok()
+        .ok_or("memory")?;
     assert!(rt; close_each(&mut counts, 4, &ONE_ROW_AT_THREE, &[0, 0]));
     assert!(rt; !counts.hot());
     assert!(rt; close_each(&mut counts, 4, &ONE_ROW_AT_THREE, &[0]));
@@ -146,7 +151,9 @@ fn two_activations_a_cycle(rt: HostRuntime) -> Result<(), Fail> {
 fn five_activations_a_cycle(rt: HostRuntime) -> Result<(), Fail> {
     let row = Row::new(0).ok_or("row")?;
     let version = Version::new(5, 8).ok_or("version")?;
-    let mut counts = BankCounts::new(rt.alloc(), &ONE_ROW_AT_SIX, version).ok().ok_or("memory")?;
+    let mut counts = BankCounts::new(rt.alloc(), &ONE_ROW_AT_SIX, version)
+        .ok()
+        .ok_or("memory")?;
     assert!(rt; close_each(&mut counts, 10, &ONE_ROW_AT_SIX, &[0, 0, 0, 0, 0]));
     assert!(rt; !counts.hot());
     assert!(rt; close_each(&mut counts, 10, &ONE_ROW_AT_SIX, &[0]));
@@ -163,7 +170,9 @@ fn five_activations_a_cycle(rt: HostRuntime) -> Result<(), Fail> {
 fn of_two_equal_rows_the_older_is_tracked(rt: HostRuntime) -> Result<(), Fail> {
     let first = Row::new(0).ok_or("row")?;
     let second = Row::new(1).ok_or("row")?;
-    let mut counts = BankCounts::new(rt.alloc(), &TWO_ROWS, Version::plain()).ok().ok_or("memory")?;
+    let mut counts = BankCounts::new(rt.alloc(), &TWO_ROWS, Version::plain())
+        .ok()
+        .ok_or("memory")?;
     assert!(rt;
         close_each(
             &mut counts,

@@ -1,4 +1,4 @@
-use Rattle.std.proofs.Common.{◌≡◌, ◌*◌, ◌+◌, ◌^◌, ◌<◌, ◌≤◌, suc, sym, subst, arith, add-one, pow-suc}
+use Rattle.std.proofs.Common.{◌≡◌, ◌*◌, ◌^◌, ◌<◌, suc, sym, subst, arith, add-one, pow-suc}
 use Rattle.speed_bin.specs.Height.{IsHeight}
 use Rattle.speed_bin.proofs.Heights.{height_at, height_is}
 use Rattle.row_counts.proofs.HeightLemmas.{power_fits, limit_fits, not_fifty, first_power, first_limit, first_reached, next_limit}

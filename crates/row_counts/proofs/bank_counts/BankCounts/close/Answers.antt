@@ -1,5 +1,4 @@
-use Rattle.std.proofs.Common.{refl, arith}
-use Rattle.std.proofs.Math.Logic.{∥∥₁_map}
+use Rattle.std.proofs.Common.{refl}
 use Rattle.row_counts.proofs.Steps.{stands_close}
 use Rattle.row_counts.proofs.bank_counts.BankCounts.close.Goals as goal
 

@@ -1,4 +1,4 @@
-use Rattle.std.proofs.Common.{◌-◌, ◌∙◌, ◌≡◌, ◌+◌, arith, refl}
+use Rattle.std.proofs.Common.{◌-◌, ◌∙◌, arith, refl}
 use Rattle.row_counts.proofs.HeightLemmas.{height_low}
 use Rattle.row_counts.proofs.Steps.{stands_fresh, levels_of}
 use Rattle.row_counts.proofs.bank_counts.BankCounts.new.Goals as goal
