@@ -1,4 +1,5 @@
 //! What no clause says: that calls succeed, and how faults of the system come through.
+ghost use Rattle.std.specs.Prelude.{◌≡◌, IfOk};
 
 use crate::{
     Got, Line, LineReader, PlainSink, PlainSource, Put, RealSink, RealSource, Sink, Source, Status,
@@ -56,7 +57,9 @@ struct Interrupted {
 }
 
 impl Interrupted {
-    fn one_byte(&mut self) -> io::Result<usize> {
+    fn one_byte(&mut self) -> io::Result<usize>
+        ensures one { IfOk result (λ count. count ≡ 1) }
+    {
         if self.times > 0 {
             self.times -= 1;
             return Err(io::ErrorKind::Interrupted.into());

@@ -56,7 +56,7 @@ impl Registers {
         Ok(())
     }
 
-    /// The settings that the registers hold; `None` exactly while one of the eight was not written.
+    /// The settings that the registers hold. `None` as long as any of the eight writes is missing, and only then.
     pub fn settings(&self) -> Option<Settings>
         ensures { result ≡ settings_in self.now }
     {

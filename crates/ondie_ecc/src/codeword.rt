@@ -6,7 +6,8 @@ ghost use Rattle.ondie_ecc.specs.Repaired.{Mends, repaired_of};
 
 use crate::syndrome::syndrome;
 
-/// 136 bits. Bit k (0 to 135) is bit `k % 8` of byte `k / 8`, the least bit being 0, and stands for position `k + 1`.
+/// 136 bits, numbered from 0. Byte `k / 8` holds bit k as its bit `k % 8`, counted from its least one; bit k stands for
+/// position `k + 1`.
 /// The check bits stand at the positions 1, 2, 4, 8, 16, 32, 64 and 128, the data bits at the others in rising order.
 #[derive(Clone, Copy, Debug, PartialEq, Eq)]
 pub struct Codeword(pub [u8; 17]);

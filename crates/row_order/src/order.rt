@@ -75,7 +75,7 @@ impl RowOrder {
         self.put(row, 0);
     }
 
-    /// The first entry of the list among those with the greatest count.
+    /// Of the entries with the greatest count, the one that stands first in the list.
     pub fn greatest(&self) -> (Row, u32)
         ensures inside { result.0 < self.now.rows }
         ensures list { (list : List Entry) → StandsFor self.now list → IsFirstGreatest list (record { row = result.0; count = result.1 }) }

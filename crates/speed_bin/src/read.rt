@@ -15,7 +15,7 @@ use std::alloc::Global;
 use toml::Table;
 
 /// The header that a TOML document states, by `docs/FORMATS.md`, or the first of its faults in the order of
-/// `HeaderFault`, in front of a separator with this version. Only for want of memory it answers `OutOfMemory`.
+/// `HeaderFault`, in front of a separator with this version. Only where memory runs out it answers `OutOfMemory`.
 pub fn read_header(alloc: Global, text: &[u8], version: Version) -> Result<Header, HeaderFault>
     ensures stated { (result ≡ Err HeaderFault.OutOfMemory) ⊎ (result ≡ header_stated version text.now) }
     ensures accepted { IfOk result IsAccepted }
