@@ -50,7 +50,7 @@ pub record BankKeeps (it : BankActivity) (h : Header) (b : ℕ) (log : Log) : Ty
 abbrev pub activity_at : List BankActivity → ℕ → BankActivity
 activity_at banks b = slice_index_or banks b (record { counts = no_rows; ath = 0; hot = false })
 
--- the counters of the 32 banks, and the alert, are those of the log
+-- the counters at each of the 32 numbers of banks, and the alert, are those of the log
 pub record ActivationsKeep (it : Activations) (h : Header) (log : Log) : Type 0 where
   pub banks : length it.banks.items ≡ 32
   pub counts : (b : ℕ) → b < 32 → BankKeeps (activity_at it.banks.items b) h b log

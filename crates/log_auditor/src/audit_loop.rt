@@ -1,5 +1,5 @@
 //! The audit of a report, from its bytes to one line.
-ghost use Rattle.std.specs.Prelude.{ℕ, ◌≡◌, ◌≢◌, ◌+◌, ◌≤◌, ◌++◌, ◌∷◌, [], IfOk, IfErr, List, Some};
+ghost use Rattle.std.specs.Prelude.{ℕ, ◌≡◌, ◌≢◌, ◌+◌, ◌++◌, ◌∷◌, [], IfOk, IfErr, List, Some, Err};
 ghost use Rattle.ddr_io.specs.Faults.{Rose};
 ghost use Rattle.ddr_io.specs.Line.{next_bytes};
 ghost use Rattle.ddr_text.specs.AcceptedReport.{IsReportLine};
@@ -27,6 +27,10 @@ pub fn audit<S: Source, K: Sink>(alloc: Global, source: &mut S, sink: &mut K) ->
     ensures answer { Answers result (S.left source.old) (S.left source.new) (K.written sink.old) (K.written sink.new) }
     ensures read { result ≡ Status.ReadFault → Rose (S.faults source.old) (S.faults source.new) }
     ensures write { result ≡ Status.WriteFault → Rose (K.faults sink.old) (K.faults sink.new) }
+
+    // No fault is passed over: only a read fault leaves another count of the source, and only a write fault one of the sink.
+    ensures reads_kept { result ≢ Status.ReadFault → S.faults source.new ≡ S.faults source.old }
+    ensures writes_kept { result ≢ Status.WriteFault → K.faults sink.new ≡ K.faults sink.old }
     ensures usage { result ≢ Status.Usage }
 {
     match find(alloc, source) {
@@ -57,6 +61,7 @@ impl Stop {
 fn write_finding<K: Sink>(finding: Finding, sink: &mut K) -> Status
     ensures written { IsWritten result finding (K.written sink.old) (K.written sink.new) }
     ensures write { result ≡ Status.WriteFault → Rose (K.faults sink.old) (K.faults sink.new) }
+    ensures kept { result ≢ Status.WriteFault → K.faults sink.new ≡ K.faults sink.old }
 {
     let mut text = ArrayVec::new();
     finding.spell(&mut text);
@@ -72,6 +77,7 @@ fn find<S: Source>(alloc: Global, source: &mut S) -> Result<Finding, Stop>
     ensures found { IfOk result (Finds (S.left source.old)) }
     ensures all { IfOk result (ReadsAllOf (S.left source.old) (S.left source.new)) }
     ensures cause { IfErr result (StopCause (S.faults source.old) (S.faults source.new)) }
+    ensures kept { result ≢ Err Stop.ReadFault → S.faults source.new ≡ S.faults source.old }
 {
     let mut reader = LineReader::new();
     match open_job(alloc, &mut reader, source) {
@@ -94,7 +100,7 @@ fn find_behind<S: Source>(
     ensures found { IfOk result (FindsBehind header.now (next_bytes reader.held (S.left source.old))) }
     ensures all { IfOk result (ReadsAllOf (S.left source.old) (S.left source.new)) }
     ensures cause { IfErr result (StopCause (S.faults source.old) (S.faults source.new)) }
-    ensures later { S.faults source.old ≤ S.faults source.new }
+    ensures kept { result ≢ Err Stop.ReadFault → S.faults source.new ≡ S.faults source.old }
 {
     let mut auditor = match Auditor::new(alloc, header) {
         Ok(auditor) => auditor,

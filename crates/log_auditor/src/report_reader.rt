@@ -1,5 +1,5 @@
 //! Reading the lines of a report, one after another, behind its opening.
-ghost use Rattle.std.specs.Prelude.{ℕ, ◌≡◌, ◌+◌, ◌<◌, ◌≤◌, length, nat_lt, if◌then◌else◌};
+ghost use Rattle.std.specs.Prelude.{ℕ, ◌≡◌, ◌≢◌, ◌+◌, ◌<◌, ◌≤◌, length, nat_lt, if◌then◌else◌};
 ghost use Rattle.ddr_io.specs.Faults.{Rose};
 ghost use Rattle.ddr_io.specs.Line.{next_bytes};
 ghost use Rattle.ddr_text.specs.AcceptedReport.{IsReportLine};
@@ -97,6 +97,9 @@ impl ReportReader {
         // A fault is told where the source counted one.
         ensures later { S.faults source.old ≤ S.faults source.new }
         ensures failed { result ≡ Next.Failed → Rose (S.faults source.old) (S.faults source.new) }
+
+        // Any other answer leaves the count: no failed read is tried again.
+        ensures kept { result ≢ Next.Failed → S.faults source.new ≡ S.faults source.old }
     {
         match self.reader.next_line(source) {
             Line::Text => self.judge_line(),
@@ -106,6 +109,7 @@ impl ReportReader {
             Line::Failed => Next::Failed,
         }
     }
+
     // Judges the line that was read.
     fn judge_line(&mut self) -> Next
         requires { length self.old.reader.line < 512 }

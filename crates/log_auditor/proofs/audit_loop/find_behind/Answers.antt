@@ -1,9 +1,11 @@
-use Rattle.std.proofs.Common.{◌≡◌, ◌∙◌, ◌≤◌, ◌++◌, ◌∷◌, [], refl, ap, arith}
+use Rattle.std.proofs.Common.{◌≡◌, ◌∙◌, ℕ, ◌++◌, ◌∷◌, [], refl, ap, subst, sym}
 use Rattle.command_words.specs.Geometry.{Shape}
+use Rattle.ddr_io.specs.Faults.{Rose}
 use Rattle.ddr_io.specs.Line.{next_bytes}
 use Rattle.log_auditor.specs.Reading.{Place}
+use Rattle.log_auditor.specs.declared.report_reader.Next.TheVariants.{Line, Failed}
 use Rattle.log_auditor.specs.declared.report_reader.Stage.TheVariants.{Body}
-use Rattle.log_auditor.proofs.Readings.{fewer_left, first_reads, may_judge, next_reads, reads_found, reads_all, reads_refused, rose_later}
+use Rattle.log_auditor.proofs.Readings.{fewer_left, first_reads, may_judge, next_reads, reads_found, reads_all, reads_refused}
 use Rattle.log_auditor.proofs.audit_loop.find_behind.Goals as goal
 
 pub loop-line-init : goal.loop-line-init
@@ -13,7 +15,7 @@ loop-line-init g c = record {
     first_reads c.args.header.now c.in-Ok.auditor c.new-lines.result c.args.reader (g.S.Source.left c.args.source.now)
         (c.new-lines.ensures ∙ ap (λ (s : Shape). record { reader = c.args.reader; shape = s; stage = Body; number = 1 }) c.geometry.ensures) c.requires.going_on c.in-Ok.ensures,
   );
-  later = omega arith;
+  kept = refl;
 }
 
 pub next-requires : goal.next-requires
@@ -31,8 +33,6 @@ loop-line-smaller g c = fewer_left c.loop-line.lines c.next.new.self c.in-Line.l
 pub loop-line-preserved : goal.loop-line-preserved
 loop-line-preserved g c =
     let r = c.loop-line.invariant.read in
-    let later = c.loop-line.invariant.later in
-    let more = c.next.ensures.later in
     record {
       read = (
         r.0 ++ c.in-Line.line ∷ [],
@@ -40,7 +40,7 @@ loop-line-preserved g c =
             c.loop-line.finding c.judge-finding.result c.loop-line.auditor c.judge-finding.new.auditor c.loop-line.lines c.next.new.self r.0 c.in-Line.line c.number-number.result r.1
             (c.next.ensures.line c.in-Line.line c.in-Line.is) c.in-Line.ensures.step c.number-number.ensures.number c.judge-finding.ensures,
       );
-      later = omega arith;
+      kept = c.next.ensures.kept (λ fails. let none : Line c.in-Line.line ≡ Failed = sym c.in-Line.is ∙ fails in cc) ∙ c.loop-line.invariant.kept;
     }
 
 pub returns-in-End-clause-found : goal.returns-in-End-clause-found
@@ -62,4 +62,4 @@ returns-in-Refused-clause-found g c =
     c.loop-line.finding c.loop-line.auditor c.loop-line.lines c.next.new.self r.0 c.in-Refused.number c.in-Refused.reason r.1 c.in-Refused.ensures.step
 
 pub returns-in-Failed-clause-cause : goal.returns-in-Failed-clause-cause
-returns-in-Failed-clause-cause g c = rose_later (g.S.Source.faults c.args.source.now) (g.S.Source.faults c.loop-line.source) (g.S.Source.faults c.next.new.source) c.loop-line.invariant.later (c.next.ensures.failed c.in-Failed.is)
+returns-in-Failed-clause-cause g c = subst (λ (before : ℕ). Rose before (g.S.Source.faults c.next.new.source)) c.loop-line.invariant.kept (c.next.ensures.failed c.in-Failed.is)

@@ -1,4 +1,4 @@
-use Rattle.std.proofs.Common.{◌≡◌, ℕ, ◌+◌, ◌-◌, ◌≤◌, List}
+use Rattle.std.proofs.Common.{◌≡◌, ℕ, ◌+◌, ◌-◌, List}
 use Rattle.ddr_io.specs.Line.{next_bytes}
 use Rattle.ddr_text.specs.declared.lines.ReportLine.{ReportLine}
 use Rattle.log_auditor.specs.Progress.{Reads}
@@ -8,7 +8,7 @@ use Rattle.log_auditor.proofs.audit_loop.find_behind.Given as goal
 abbrev pub invariant-loop-line : goal.invariant-loop-line
 invariant-loop-line g l = record {
   read : (lines : List ReportLine) × Reads l.header (next_bytes l.fn.reader.held (g.S.Source.left l.fn.source)) l.finding l.auditor l.lines (next_bytes l.lines.reader.held (g.S.Source.left l.source)) lines;
-  later : g.S.Source.faults l.fn.source ≤ g.S.Source.faults l.source;
+  kept : g.S.Source.faults l.source ≡ g.S.Source.faults l.fn.source;
 }
 
 abbrev pub decreases-loop-line : goal.decreases-loop-line
