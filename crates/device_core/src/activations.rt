@@ -251,4 +251,3 @@ impl Activations {
         self.peak = peak;
     }
 }
-

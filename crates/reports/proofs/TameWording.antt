@@ -153,7 +153,7 @@ pub tame_of_words : (changes : List Change) (line device : ℕ) → IsTameInWord
 tame_of_words [] line device w = refl
 tame_of_words (wrote at bytes ∷ changes) line device w =
     go (line == at) refl (λ e. tame_of_words changes line device (λ newer between older second first is none_newer none_between.
-        w (wrote at bytes ∷ newer) between older second first (ap (λ (l : List Change). wrote at bytes ∷ l) is) (λ same. let f = eq-eqb line at same in cc, none_newer) none_between))
+    w (wrote at bytes ∷ newer) between older second first (ap (λ (l : List Change). wrote at bytes ∷ l) is) (λ same. let f = eq-eqb line at same in cc, none_newer) none_between))
   where
     go : (t : Bool) → (line == at) ≡ t → ((line == at) ≡ false → is_tame changes line device ≡ true) → (t || is_tame changes line device) ≡ true
     go true e rest = refl

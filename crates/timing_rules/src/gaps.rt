@@ -57,7 +57,10 @@ fn after_rd(timing: &Timing, second: &Command, same_group: bool, together: bool)
     entry(true, 2)
         .max(entry(second.is_rd(), timing.nccd_s))
         .max(entry_where(second.is_rd(), same_group, timing.nccd_l))
-        .max(entry(second.is_wr(), (timing.ncl + 10).saturating_sub(timing.ncwl)))
+        .max(entry(
+            second.is_wr(),
+            (timing.ncl + 10).saturating_sub(timing.ncwl),
+        ))
         .max(entry_where(second.is_precharge(), together, timing.nrtp))
 }
 

@@ -12,8 +12,8 @@ ghost use Rattle.timing_rules.specs.Scope.{IsScope, is_within};
 ghost use Rattle.timing_rules.specs.Spaced.{spacing_rules};
 
 use crate::Clock;
-use crate::kept::{Addressed, Banked, within_all};
 use crate::gaps::follows_precharge;
+use crate::kept::{Addressed, Banked, within_all};
 use crate::rows::row;
 use crate::scope::{Scope, scope_of};
 use circular_buffer::HeapCircularBuffer;
@@ -209,7 +209,11 @@ impl Gate {
         row(command.is_rd(), reads.any, self.timing.nccd_s)
             .max(row(command.is_rd(), in_group, self.timing.nccd_l))
             .max(row(command.is_wr(), reads.any, turn))
-            .max(row(command.is_precharge(), reads.within(scope), self.timing.nrtp))
+            .max(row(
+                command.is_precharge(),
+                reads.within(scope),
+                self.timing.nrtp,
+            ))
     }
 
     fn behind_writes(&self, command: &Command, scope: Scope) -> Clock
