@@ -124,6 +124,7 @@ after_turn (Issue clock command id) from until finished h old controller pending
       chosen = subst (λ (l : Log). IsChosen h (waiting h offered (controller_steps steps)) l clock command (number_of id)) log t.chosen;
       prompt = subst (λ (l : Log). IsPrompt h from l clock command) log t.prompt;
       busy = λ rest. let b = t.busy rest in (b.0, subst (λ (l : Log). all_closed l ≡ false) log b.1);
+      now = t.now;
       stands = record {
         controller = subst (λ (p : Option NumberedStep). ControllerFor h controller offered idle (with_pending p (controller_steps steps))) (sym e) t.stands;
         device = s.device;

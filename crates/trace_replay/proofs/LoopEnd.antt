@@ -1,5 +1,5 @@
 -- Why serving stopped, and what was written then.
-use Rattle.std.proofs.Common.{◌≡◌, ℕ, Option, None, List, Bool, true, false, subst}
+use Rattle.std.proofs.Common.{◌≡◌, ◌∙◌, ℕ, inl, inr, sym, Option, None, List, Bool, true, false, subst}
 use Rattle.std.specs.List.{flat_map}
 use Rattle.speed_bin.specs.declared.header.Header.{Header}
 use Rattle.ddr_text.specs.Spelling.{spelled}
@@ -9,8 +9,10 @@ use Rattle.ddr_text.specs.declared.lines.TraceLine.{TraceLine}
 use Rattle.reports.specs.Runs.{Run}
 use Rattle.trace_replay.proofs.Under.{under-none}
 use Rattle.trace_replay.specs.Progress.{Holds, IsUnder, IsOver, IsLeftOff, IsBegun, TurnAfter}
-use Rattle.trace_replay.specs.Replay.{StopsServing}
-use Rattle.trace_replay.specs.Stop.{ReadCause, WriteCause}
+use Rattle.ddr_io.specs.declared.status.Status.{Status}
+use Rattle.ddr_io.specs.declared.status.Status.TheVariants as status
+use Rattle.trace_replay.specs.Replay.{StopsServing, IsWhole}
+use Rattle.trace_replay.specs.Stop.{ReadCause, WriteCause, status_of}
 use Rattle.trace_replay.specs.declared.progress.Progress.{Progress}
 use Rattle.trace_replay.specs.declared.stop.Stop.{Stop}
 use Rattle.trace_replay.specs.declared.stop.Stop.TheVariants.{ReadFault, WriteFault, OutOfMemory}
@@ -48,3 +50,12 @@ turned-over b h p start left before written e k = subst (λ c. TurnAfter c h p s
 
 pub turned-under : (b : Bool) (h : Header) (p : Progress) (start left before written : Option (List ℕ)) → b ≡ true → TurnAfter b h p start left before written → IsUnder h p start left before written
 turned-under b h p start left before written e k = subst (λ c. TurnAfter c h p start left before written) e k
+
+-- the status of a stop is not that of a report that was written whole
+pub never-whole : (stop : Stop) (answer : Status) → answer ≡ status_of stop → IsWhole answer → ⊥
+never-whole ReadFault answer e (inl f) = let k : status.ReadFault ≡ status.Ok = sym e ∙ f in cc
+never-whole ReadFault answer e (inr f) = let k : status.ReadFault ≡ status.Refused = sym e ∙ f in cc
+never-whole WriteFault answer e (inl f) = let k : status.WriteFault ≡ status.Ok = sym e ∙ f in cc
+never-whole WriteFault answer e (inr f) = let k : status.WriteFault ≡ status.Refused = sym e ∙ f in cc
+never-whole OutOfMemory answer e (inl f) = let k : status.OutOfMemory ≡ status.Ok = sym e ∙ f in cc
+never-whole OutOfMemory answer e (inr f) = let k : status.OutOfMemory ≡ status.Refused = sym e ∙ f in cc

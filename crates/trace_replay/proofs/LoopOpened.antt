@@ -1,17 +1,18 @@
 -- What a replay answers, by the bytes that its source had.
-use Rattle.std.proofs.Common.{◌≡◌, ◌∙◌, ℕ, inl, inr, true, false, Option, Some, None, is_some, List, [], ◌++◌, refl, sym, ap, subst}
+use Rattle.std.proofs.Common.{◌≡◌, ◌∙◌, ℕ, inl, inr, true, false, Option, Some, None, is_some, Result, Ok, List, [], ◌++◌, refl, sym, ap, subst}
 use Rattle.ddr_io.specs.Line.{next_bytes}
 use Rattle.ddr_io.specs.declared.status.Status.{Status}
 use Rattle.ddr_io.specs.declared.status.Status.TheVariants as status
 use Rattle.speed_bin.specs.declared.header.Header.{Header}
-use Rattle.ddr_text.specs.Opening.{Accepts, Refuses, opening_of, IsOpening, IsAnswer}
+use Rattle.std.specs.Io.KnownBytes.{Keeps}
+use Rattle.ddr_text.specs.Opening.{Accepts, Refuses, opening_of, IsOpening, IsAnswer, IsUnopened}
 use Rattle.ddr_text.specs.declared.opening.Opening.{Opening}
 use Rattle.ddr_text.specs.declared.opening.Opening.TheVariants as opens
 use Rattle.ddr_text.specs.declared.lines.TraceLine.{TraceLine}
 use Rattle.speed_bin.specs.Header.{shape_of}
 use Rattle.trace_replay.specs.Job.{trace_of, Traced, IsJobOf, IsNoJob}
 use Rattle.trace_replay.specs.Reading.{Continues}
-use Rattle.trace_replay.specs.Replay.{JobAnswers, TraceAnswers, Answers, IsServed, TraceEnds, RunAnswers, IsUnrefused}
+use Rattle.trace_replay.specs.Replay.{JobAnswers, TraceAnswers, Answers, IsServed, TraceEnds, RunAnswers, EndKept, IsUnrefused}
 use Rattle.trace_replay.specs.Stop.{status_of}
 use Rattle.trace_replay.specs.declared.ending.Ending.{Ending}
 use Rattle.trace_replay.specs.declared.replay_loop.Ended.{Ended}
@@ -79,6 +80,33 @@ pub opened : (opening : Opening) (ended : Ended) (h : Header) (text : List ℕ) 
     → ((start : Option (List ℕ)) → Continues (shape_of h) [] start [] next → TraceEnds ended h text start left before after) → RunAnswers ended known left before after
 opened opening ended h text held known next left before after is none o fits e =
     accepted ended h text held known next left before after none (subst (λ (p : Opening). IsOpening (next_bytes held known) next p) is o) (subst (λ (p : Opening). IsAnswer p) is fits) e
+
+-- ---- The opening is not read to its end
+
+keeps-same : (known : Option (List ℕ)) → Keeps known known
+keeps-same None = tt
+keeps-same (Some bytes) = refl
+
+held-none : (held : List ℕ) (known left : Option (List ℕ)) → held ≡ [] → IsUnopened (next_bytes held known) left → IsUnopened known left
+held-none held None left none u = tt
+held-none held (Some bytes) left none u = subst (λ l. IsUnopened (Some (l ++ bytes)) left) none u
+
+pub failed : (held : List ℕ) (known left written : Option (List ℕ)) → held ≡ [] → IsUnopened (next_bytes held known) left → Answers status.ReadFault known left written written
+failed held known left written none u = inr (inr (inr (held-none held known left none u, keeps-same written)))
+
+-- ---- No fault was counted
+
+pub kept-behind : (before read read_after wrote wrote_after : ℕ) (ended : Ended) → read ≡ before → EndKept read read_after wrote wrote_after ended → EndKept before read_after wrote wrote_after ended
+kept-behind before read read_after wrote wrote_after ended same k = subst (λ n. EndKept n read_after wrote wrote_after ended) same k
+
+pub accepted-read : {E : Type 0} (opening : Opening) (h : Header) (text : List ℕ) → opening ≡ opens.Accepted h text → ◌≡◌ {A = Result Opening E} (Ok opening) (Ok opens.Failed) → ⊥
+accepted-read opening h text is e = let f : opening ≡ opens.Failed = cc in let k : opens.Accepted h text ≡ opens.Failed = sym is ∙ f in cc
+
+pub failed-read : {E : Type 0} (opening : Opening) → opening ≡ opens.Failed → ◌≡◌ {A = Result Opening E} (Ok opening) (Ok opens.Failed)
+failed-read opening is = ap Ok is
+
+pub refused-read : {E : Type 0} (opening : Opening) (reason : ℕ) → opening ≡ opens.Refused reason → ◌≡◌ {A = Result Opening E} (Ok opening) (Ok opens.Failed) → ⊥
+refused-read opening reason is e = let f : opening ≡ opens.Failed = cc in let k : opens.Refused reason ≡ opens.Failed = sym is ∙ f in cc
 
 -- ---- A job with nothing to refuse is not refused
 

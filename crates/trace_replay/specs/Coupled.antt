@@ -1,5 +1,5 @@
 -- What a controller and a device at two ends of a bus stand for: one list that both agree on. The newest step stands first.
-use Rattle.std.specs.Prelude.{ℕ, ◌≡◌, ◌<◌, ◌≤◌, ◌^◌, Bool, true, false, Option, Some, None, List, [], ◌∷◌, max, is_some, option_map, IsTrue, ⊤}
+use Rattle.std.specs.Prelude.{ℕ, ◌≡◌, ◌+◌, ◌<◌, ◌≤◌, ◌^◌, Bool, true, false, Option, Some, None, List, [], ◌∷◌, max, is_some, option_map, IsTrue, ⊤}
 use Rattle.command_words.specs.declared.command.Command.{Command}
 use Rattle.command_words.specs.declared.geometry.Place.{Place}
 use Rattle.speed_bin.specs.Alert.{alert}
@@ -150,6 +150,8 @@ pub record Issues (clock : ℕ) (command : Command) (id : Option RequestId) (fro
   pub prompt : IsPrompt h from (log_of steps) clock command
   -- where nothing waits and nothing is due, it is the last precharge
   pub busy : AtRest h (max from until) offered (controller_steps steps) → (finished ≡ true) × (all_closed (log_of steps) ≡ false)
+  -- the next command comes one clock later at the least
+  pub now : from_of new ≡ clock + 1
   pub stands : StandsFor new h offered idle steps
   pub is_pending : pending_of new ≡ Some (issued_as clock command id)
 

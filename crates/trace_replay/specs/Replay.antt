@@ -9,6 +9,7 @@ use Rattle.ddr_io.specs.Sink.{AppendsPrefix}
 use Rattle.ddr_io.specs.declared.status.Status.{Status}
 use Rattle.ddr_io.specs.declared.status.Status.TheVariants as status
 use Rattle.speed_bin.specs.Header.{shape_of}
+use Rattle.ddr_text.specs.Opening.{IsUnopened}
 use Rattle.ddr_text.specs.Spelling.{spelled}
 use Rattle.ddr_text.specs.declared.lines.TraceLine.{TraceLine}
 use Rattle.ddr_text.specs.declared.lines.ReportLine.TheVariants.{End as EndLine, Refused as RefusedLine}
@@ -90,15 +91,15 @@ OpeningAnswers status.ReadFault reason before after = ⊥
 OpeningAnswers status.Usage reason before after = ⊥
 OpeningAnswers status.Broken reason before after = ⊥
 
--- where reading stopped before the trace
-abbrev pub StopAnswers : Status → Option (List ℕ) → Option (List ℕ) → Type 0
-StopAnswers status.ReadFault before after = Keeps before after
-StopAnswers status.OutOfMemory before after = Keeps before after
-StopAnswers status.Ok before after = ⊥
-StopAnswers status.Refused before after = ⊥
-StopAnswers status.WriteFault before after = ⊥
-StopAnswers status.Usage before after = ⊥
-StopAnswers status.Broken before after = ⊥
+-- where reading stopped before the trace: by a fault, where the bytes that were taken open no job
+abbrev pub StopAnswers : Status → Option (List ℕ) → Option (List ℕ) → Option (List ℕ) → Option (List ℕ) → Type 0
+StopAnswers status.ReadFault left left_after before after = IsUnopened left left_after × Keeps before after
+StopAnswers status.OutOfMemory left left_after before after = Keeps before after
+StopAnswers status.Ok left left_after before after = ⊥
+StopAnswers status.Refused left left_after before after = ⊥
+StopAnswers status.WriteFault left left_after before after = ⊥
+StopAnswers status.Usage left left_after before after = ⊥
+StopAnswers status.Broken left left_after before after = ⊥
 
 -- ---- Behind the opening
 
@@ -162,6 +163,16 @@ EndCause read read_after wrote wrote_after (Finished ending) = ⊤
 EndCause read read_after wrote wrote_after (Stopped stop) = StopCause read read_after wrote wrote_after stop
 EndCause read read_after wrote wrote_after RefusedOpening = ⊤
 
+-- no fault was counted, unless something stopped
+abbrev pub EndKept : ℕ → ℕ → ℕ → ℕ → Ended → Type 0
+EndKept read read_after wrote wrote_after (Finished ending) = (read_after ≡ read) × (wrote_after ≡ wrote)
+EndKept read read_after wrote wrote_after (Stopped stop) = ⊤
+EndKept read read_after wrote wrote_after RefusedOpening = (read_after ≡ read) × (wrote_after ≡ wrote)
+
+-- the statuses of a report that was written whole
+abbrev pub IsWhole : Status → Type 0
+IsWhole answer = (answer ≡ status.Ok) ⊎ (answer ≡ status.Refused)
+
 -- nothing of the job was refused
 abbrev pub IsUnrefused : Ended → Type 0
 IsUnrefused (Finished ending) = ending.refusal ≡ None
@@ -181,7 +192,8 @@ EndAnswers status.Broken ending before after = ⊥
 -- ---- The answer to a job
 
 -- The bytes that the source had are a job, which was answered so; or a read fault came in its trace; or its opening is
--- refused; or reading stopped before the trace, and nothing was written.
+-- refused; or reading stopped before the trace, and nothing was written: by a fault only where the bytes that were taken
+-- open no job.
 abbrev pub Answers : Status → Option (List ℕ) → Option (List ℕ) → Option (List ℕ) → Option (List ℕ) → Type 0
 Answers answer left left_after before after =
     ((h : Header) × (text : List ℕ) × (trace : List TraceLine) × (refused : Option ℕ)
@@ -189,7 +201,7 @@ Answers answer left left_after before after =
     ⊎ (((h : Header) × (text : List ℕ) × (trace : List TraceLine)
     × IsPartOf left left_after h text trace × IsTrace (shape_of h) trace × PartAnswers answer h text trace before after)
     ⊎ (((reason : ℕ) × IsNoJob left reason × OpeningAnswers answer reason before after)
-    ⊎ StopAnswers answer before after))
+    ⊎ StopAnswers answer left left_after before after))
 
 -- ---- How a replay ended
 

@@ -30,6 +30,7 @@ pub(crate) fn put_answers<K: Sink>(held: &mut Held, sink: &mut K) -> Result<(), 
     ensures cut { IfErr result (λ stop. (h : AnyHeader) (trace : List AnyLine) (run : Run) (before : ℕ) (rs : List AnyRequest) → held.old ≡ kept_of h trace run before rs
         → AppendsPrefix (K.written sink.old) (K.written sink.new) (flat_map spelled (answers h trace run (ready rs run)))) }
     ensures later { K.faults sink.old ≤ K.faults sink.new }
+    ensures kept { OnOk result (K.faults sink.new ≡ K.faults sink.old) }
     ensures cause { IfErr result (WriteCause (K.faults sink.old) (K.faults sink.new)) }
 {
     'answers: loop {
@@ -45,6 +46,7 @@ fn put_answer<K: Sink>(served: &HeldRequest, sink: &mut K) -> Result<(), Stop>
     ensures whole { OnOk result (Appends (K.written sink.old) (K.written sink.new) (flat_map spelled (answer_lines served.now))) }
     ensures cut { IfErr result (λ stop. AppendsPrefix (K.written sink.old) (K.written sink.new) (flat_map spelled (answer_lines served.now))) }
     ensures later { K.faults sink.old ≤ K.faults sink.new }
+    ensures kept { OnOk result (K.faults sink.new ≡ K.faults sink.old) }
     ensures cause { IfErr result (WriteCause (K.faults sink.old) (K.faults sink.new)) }
 {
     match &served.outcome {
@@ -63,6 +65,7 @@ fn put_value<K: Sink>(
     ensures whole { OnOk result (Appends (K.written sink.old) (K.written sink.new) (spelled (ValueLine number line read.now.bytes read.now.state))) }
     ensures cut { IfErr result (λ stop. AppendsPrefix (K.written sink.old) (K.written sink.new) (spelled (ValueLine number line read.now.bytes read.now.state))) }
     ensures later { K.faults sink.old ≤ K.faults sink.new }
+    ensures kept { OnOk result (K.faults sink.new ≡ K.faults sink.old) }
     ensures cause { IfErr result (WriteCause (K.faults sink.old) (K.faults sink.new)) }
 {
     put_line(

@@ -29,6 +29,7 @@ impl Progress {
         ensures fewer { OnOk result (left_of self.new < left_of self.old) }
         ensures reader { (last : AnyEnd) → MayGoOn self.old.ahead last → MayGoOn self.new.ahead last }
         ensures later { K.faults sink.old ≤ K.faults sink.new }
+        ensures kept { OnOk result (K.faults sink.new ≡ K.faults sink.old) }
         ensures cause { IfErr result (WriteCause (K.faults sink.old) (K.faults sink.new)) }
     {
         reports::laws::carries_out_an_idle();
@@ -65,6 +66,7 @@ impl Progress {
         ensures fewer { OnOk result (left_of self.new < left_of self.old) }
         ensures reader { (last : AnyEnd) → MayGoOn self.old.ahead last → MayGoOn self.new.ahead last }
         ensures later { K.faults sink.old ≤ K.faults sink.new }
+        ensures kept { OnOk result (K.faults sink.new ≡ K.faults sink.old) }
         ensures cause { IfErr result (WriteCause (K.faults sink.old) (K.faults sink.new)) }
     {
         match line {
@@ -113,6 +115,7 @@ impl Progress {
         ensures fewer { OnOk result (left_of self.new < left_of self.old) }
         ensures reader { (last : AnyEnd) → MayGoOn self.old.ahead last → MayGoOn self.new.ahead last }
         ensures later { K.faults sink.old ≤ K.faults sink.new }
+        ensures kept { OnOk result (K.faults sink.new ≡ K.faults sink.old) }
         ensures cause { IfErr result (WriteCause (K.faults sink.old) (K.faults sink.new)) }
     {
         reports::laws::carries_out_a_flip();

@@ -218,9 +218,16 @@ fn run(alloc: Global, header: &Header, lines: &[Line], wanted: &Wanted) -> Optio
     }
 }
 
-// Runs the lines under the header of this text.
-fn run_text(alloc: Global, text: &[u8], lines: &[Line], wanted: &Wanted) -> Option<(Clock, u32)> {
-    let Ok(header) = read_header(alloc, text, Version::plain()) else {
+// Runs the lines under the header of this text, with so many bank groups.
+fn run_text(
+    alloc: Global,
+    text: &[u8],
+    groups: u8,
+    lines: &[Line],
+    wanted: &Wanted,
+) -> Option<(Clock, u32)> {
+    let version = Version::new(4, groups)?;
+    let Ok(header) = read_header(alloc, text, version) else {
         return None;
     };
     run(alloc, &header, lines, wanted)
@@ -305,7 +312,7 @@ fn a_line_is_written_and_read(rt: HostRuntime) -> Result<(), Fail> {
     };
     let lines = [Line::Write(0), Line::Read(0)];
     assert_eq!(rt;
-        run_text(rt.alloc(), SIXTEEN_ROWS, &lines, &wanted),
+        run_text(rt.alloc(), SIXTEEN_ROWS, 8, &lines, &wanted),
         Some((55, 1))
     );
     Ok(())
@@ -330,7 +337,7 @@ fn one_flip_in_each_codeword_is_fixed(rt: HostRuntime) -> Result<(), Fail> {
         Line::Read(0),
     ];
     assert_eq!(rt;
-        run_text(rt.alloc(), SIXTEEN_ROWS, &lines, &wanted),
+        run_text(rt.alloc(), SIXTEEN_ROWS, 8, &lines, &wanted),
         Some((55, 1))
     );
     Ok(())
@@ -346,14 +353,17 @@ fn the_device_raises_the_alert(rt: HostRuntime) -> Result<(), Fail> {
         },
         bytes: line_of(0),
     };
-    let (even, odd, idle) = (Line::Read(0), Line::Read(2048), Line::Idle(0));
-    let lines = [
-        even, idle, odd, idle, even, idle, odd, idle, even, idle, odd, idle, even, idle, odd, idle,
-        even, idle, odd, idle, even,
-    ];
-    assert_eq!(rt;
-        run_text(rt.alloc(), TWO_ROWS, &lines, &wanted),
-        Some((167, 5))
-    );
+    // The second row begins after 256 lines a group.
+    for (groups, second) in [(8, 2048), (4, 1024)] {
+        let (even, odd, idle) = (Line::Read(0), Line::Read(second), Line::Idle(0));
+        let lines = [
+            even, idle, odd, idle, even, idle, odd, idle, even, idle, odd, idle, even, idle, odd,
+            idle, even, idle, odd, idle, even,
+        ];
+        assert_eq!(rt;
+            run_text(rt.alloc(), TWO_ROWS, groups, &lines, &wanted),
+            Some((167, 5))
+        );
+    }
     Ok(())
 }

@@ -1,5 +1,5 @@
 //! What ends a report.
-ghost use Rattle.std.specs.Prelude.{◌≤◌, ◌∷◌, OnOk, IfErr};
+ghost use Rattle.std.specs.Prelude.{◌≡◌, ◌≤◌, ◌∷◌, OnOk, IfErr};
 ghost use Rattle.std.specs.List.{flat_map};
 ghost use Rattle.std.specs.Io.KnownBytes.{Appends};
 ghost use Rattle.ddr_io.specs.Sink.{AppendsPrefix};
@@ -33,6 +33,7 @@ impl Ending {
         ensures whole { OnOk result (Appends (K.written sink.old) (K.written sink.new) (flat_map spelled (end_lines self.now))) }
         ensures cut { IfErr result (λ stop. AppendsPrefix (K.written sink.old) (K.written sink.new) (flat_map spelled (end_lines self.now))) }
         ensures later { K.faults sink.old ≤ K.faults sink.new }
+        ensures kept { OnOk result (K.faults sink.new ≡ K.faults sink.old) }
         ensures cause { IfErr result (WriteCause (K.faults sink.old) (K.faults sink.new)) }
     {
         put_stats(&self.counts, self.peak, &self.scrub, sink)?;
@@ -45,6 +46,7 @@ fn put_end<K: Sink>(clock: Clock, refusal: Option<(u64, u8)>, sink: &mut K) -> R
     ensures whole { OnOk result (Appends (K.written sink.old) (K.written sink.new) (flat_map spelled (EndLine clock ∷ refused_line refusal))) }
     ensures cut { IfErr result (λ stop. AppendsPrefix (K.written sink.old) (K.written sink.new) (flat_map spelled (EndLine clock ∷ refused_line refusal))) }
     ensures later { K.faults sink.old ≤ K.faults sink.new }
+    ensures kept { OnOk result (K.faults sink.new ≡ K.faults sink.old) }
     ensures cause { IfErr result (WriteCause (K.faults sink.old) (K.faults sink.new)) }
 {
     put_line(&ReportLine::End(clock), sink)?;
@@ -56,6 +58,7 @@ fn put_refusal<K: Sink>(refusal: Option<(u64, u8)>, sink: &mut K) -> Result<(), 
     ensures whole { OnOk result (Appends (K.written sink.old) (K.written sink.new) (flat_map spelled (refused_line refusal))) }
     ensures cut { IfErr result (λ stop. AppendsPrefix (K.written sink.old) (K.written sink.new) (flat_map spelled (refused_line refusal))) }
     ensures later { K.faults sink.old ≤ K.faults sink.new }
+    ensures kept { OnOk result (K.faults sink.new ≡ K.faults sink.old) }
     ensures cause { IfErr result (WriteCause (K.faults sink.old) (K.faults sink.new)) }
 {
     match refusal {

@@ -177,7 +177,10 @@ impl Progress {
             → IsLeftOff h start (S.left source.new) before written) }
         ensures fewer { left_of self.new ≤ left_of self.old }
         ensures going_on { OnOk result (MayGoOn self.new.ahead reader.new.last) }
+        // Behind a line that is refused nothing more is asked for.
+        ensures unasked { (reason : ℕ) → self.old.ahead ≡ Ahead.Refused reason → source.new ≡ source.old }
         ensures later { S.faults source.old ≤ S.faults source.new }
+        ensures kept { OnOk result (S.faults source.new ≡ S.faults source.old) }
         ensures cause { IfErr result (ReadCause (S.faults source.old) (S.faults source.new)) }
     {
         'lines: loop {
@@ -200,7 +203,11 @@ impl Progress {
         ensures fewer { left_of self.new ≤ left_of self.old }
         ensures lines { self.new.tally ≡ self.old.tally }
         ensures going_on { OnOk result (MayGoOn self.new.ahead reader.new.last) }
+        // A line that is known is not asked for again.
+        ensures unasked { IsKnown self.old.ahead → source.new ≡ source.old }
+        ensures known_still { IsKnown self.old.ahead → self.new ≡ self.old }
         ensures later { S.faults source.old ≤ S.faults source.new }
+        ensures kept { OnOk result (S.faults source.new ≡ S.faults source.old) }
         ensures cause { IfErr result (ReadCause (S.faults source.old) (S.faults source.new)) }
     {
         match self.ahead {
@@ -232,6 +239,7 @@ impl Progress {
         ensures line { result ≡ true → self.new.tally.lines ≡ self.old.tally.lines + 1 }
         ensures goes_on { (last : AnyEnd) → MayGoOn self.old.ahead last → MayGoOn self.new.ahead last }
         ensures ahead { result ≡ true → self.new.ahead ≡ Ahead.Unknown }
+        ensures refused { (reason : ℕ) → self.old.ahead ≡ Ahead.Refused reason → result ≡ false }
         ensures same { result ≡ false → self.new ≡ self.old }
     {
         match self.ahead {

@@ -152,6 +152,37 @@ const OPENINGS: [(&str, u8); 27] = [
     ("ath = \n---\n", 11),
 ];
 
+// Lines in place of the separator, behind a header that is accepted, and the reason. What begins as a separator of version 2 and
+// is none has a reason of its own.
+const SEPARATORS: [(&str, u8); 14] = [
+    ("--- 2 1 8", 29),
+    ("--- 2 6 8", 29),
+    ("--- 2 4 6", 29),
+    ("--- 2 4 16", 29),
+    ("--- 1 4 8", 29),
+    ("--- 2 04 8", 29),
+    ("--- 2 +4 8", 29),
+    ("--- 2 4", 29),
+    ("--- 2 4 8 8", 29),
+    ("--- 2 4 8 ", 29),
+    ("---  2 4 8", 29),
+    ("--- ", 29),
+    ("--- 2 4 18446744073709551616", 29),
+    ("---2 4 8\n---", 11),
+];
+
+#[test]
+fn separators_are_refused(rt: HostRuntime) -> Result<(), Fail> {
+    let alloc = rt.alloc();
+    for (line, reason) in SEPARATORS {
+        let job = format!(in alloc; "{HEADER}{line}\nR 0\n")?;
+        let want = format!(in alloc; "X 0 {reason}\n")?;
+        let report = report_of(alloc, job.as_bytes())?;
+        assert_eq!(rt; report.as_slice(), want.as_bytes());
+    }
+    Ok(())
+}
+
 // Traces, and the line that ends the report.
 const TRACES: [(&str, &str); 37] = [
     ("\n", "X 1 1\n"),

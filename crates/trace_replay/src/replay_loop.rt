@@ -11,7 +11,7 @@ ghost use Rattle.reports.specs.Runs.{Run};
 ghost use Rattle.trace_replay.specs.Job.{IsJobOf};
 ghost use Rattle.trace_replay.specs.Reading.{Continues, IsRead};
 ghost use Rattle.trace_replay.specs.Progress.{Holds, IsUnder, IsOver, MayGoOn};
-ghost use Rattle.trace_replay.specs.Replay.{Answers, RunAnswers, OpeningEnds, TraceAnswers, TraceServed, TraceEnds, EndAnswers, EndCause, IsUnrefused, StopsServing, StopCause};
+ghost use Rattle.trace_replay.specs.Replay.{Answers, RunAnswers, OpeningEnds, TraceAnswers, TraceServed, TraceEnds, EndAnswers, EndCause, EndKept, IsUnrefused, IsWhole, StopsServing, StopCause};
 ghost use Rattle.trace_replay.specs.Stop.{status_of};
 
 use crate::ending::Ending;
@@ -45,6 +45,11 @@ pub fn replay<S: Source, K: Sink>(alloc: Global, source: &mut S, sink: &mut K) -
 
     ensures read { result ≡ Status.ReadFault → Rose (S.faults source.old) (S.faults source.new) }
     ensures write { result ≡ Status.WriteFault → Rose (K.faults sink.old) (K.faults sink.new) }
+
+    // A report that was written whole met no fault.
+    ensures kept { IsWhole result → S.faults source.new ≡ S.faults source.old }
+    ensures kept_written { IsWhole result → K.faults sink.new ≡ K.faults sink.old }
+
     ensures usage { result ≢ Status.Usage }
     ensures broken { result ≢ Status.Broken }
 {
@@ -58,6 +63,7 @@ pub fn replay<S: Source, K: Sink>(alloc: Global, source: &mut S, sink: &mut K) -
 // Writes the end of a report.
 fn end_report<K: Sink>(ending: &Ending, sink: &mut K) -> Status
     ensures answer { EndAnswers result ending.now (K.written sink.old) (K.written sink.new) }
+    ensures kept { IsWhole result → K.faults sink.new ≡ K.faults sink.old }
     ensures write { result ≡ Status.WriteFault → Rose (K.faults sink.old) (K.faults sink.new) }
 {
     match ending.write(sink) {
@@ -78,6 +84,7 @@ pub fn run_job<S: Source, K: Sink>(alloc: Global, source: &mut S, sink: &mut K) 
     ensures complete { (bytes : List ℕ) (h : AnyHeader) (text : List ℕ) (trace : List TraceLine) → S.left source.old ≡ Some bytes
         → IsJobOf (Some bytes) h text trace None → IsUnrefused result }
 
+    ensures kept { EndKept (S.faults source.old) (S.faults source.new) (K.faults sink.old) (K.faults sink.new) result }
     ensures later { S.faults source.old ≤ S.faults source.new }
     ensures later_written { K.faults sink.old ≤ K.faults sink.new }
     ensures cause { EndCause (S.faults source.old) (S.faults source.new) (K.faults sink.old) (K.faults sink.new) result }
@@ -96,6 +103,7 @@ pub fn run_job<S: Source, K: Sink>(alloc: Global, source: &mut S, sink: &mut K) 
 // Writes the report of a job whose opening is refused.
 fn refuse_opening<K: Sink>(reason: u8, sink: &mut K) -> Ended
     ensures answer { OpeningEnds result reason (K.written sink.old) (K.written sink.new) }
+    ensures kept { (read : ℕ) → EndKept read read (K.faults sink.old) (K.faults sink.new) result }
     ensures later_written { K.faults sink.old ≤ K.faults sink.new }
     ensures cause { (read read_after : ℕ) → EndCause read read_after (K.faults sink.old) (K.faults sink.new) result }
 {
@@ -118,6 +126,7 @@ fn run_trace<S: Source, K: Sink>(
     requires going_on { reader.old.last ≡ AfterText }
     ensures answer { (start : Option (List ℕ)) → Continues (shape_of header.now) [] start [] (next_bytes reader.old.held (S.left source.old))
         → TraceEnds result header.now text.now start (S.left source.new) (K.written sink.old) (K.written sink.new) }
+    ensures kept { EndKept (S.faults source.old) (S.faults source.new) (K.faults sink.old) (K.faults sink.new) result }
     ensures later { S.faults source.old ≤ S.faults source.new }
     ensures later_written { K.faults sink.old ≤ K.faults sink.new }
     ensures cause { EndCause (S.faults source.old) (S.faults source.new) (K.faults sink.old) (K.faults sink.new) result }
@@ -143,6 +152,7 @@ fn serve_trace<S: Source, K: Sink>(
         → TraceServed header.now text.now start (S.left source.new) (K.written sink.old) (K.written sink.new) ending) }
     ensures cut { IfErr result (λ stop. (start : Option (List ℕ)) → Continues (shape_of header.now) [] start [] (next_bytes reader.old.held (S.left source.old))
         → TraceAnswers (status_of stop) header.now text.now start (S.left source.new) (K.written sink.old) (K.written sink.new)) }
+    ensures kept { OnOk result ((S.faults source.new ≡ S.faults source.old) × (K.faults sink.new ≡ K.faults sink.old)) }
     ensures later { S.faults source.old ≤ S.faults source.new }
     ensures later_written { K.faults sink.old ≤ K.faults sink.new }
     ensures cause { IfErr result (StopCause (S.faults source.old) (S.faults source.new) (K.faults sink.old) (K.faults sink.new)) }
@@ -185,6 +195,7 @@ fn serve<S: Source, K: Sink>(
         → IsOver h progress.new start (next_bytes reader.new.held (S.left source.new)) before (K.written sink.new)) }
     ensures cut { IfErr result (λ stop. (h : AnyHeader) (start before : Option (List ℕ)) → IsUnder h progress.old start (next_bytes reader.old.held (S.left source.old)) before (K.written sink.old)
         → StopsServing stop h start (S.left source.new) before (K.written sink.new)) }
+    ensures kept { OnOk result ((S.faults source.new ≡ S.faults source.old) × (K.faults sink.new ≡ K.faults sink.old)) }
     ensures later { S.faults source.old ≤ S.faults source.new }
     ensures later_written { K.faults sink.old ≤ K.faults sink.new }
     ensures cause { IfErr result (StopCause (S.faults source.old) (S.faults source.new) (K.faults sink.old) (K.faults sink.new)) }

@@ -33,6 +33,7 @@ pub fn put<K: Sink>(sink: &mut K, piece: &[u8]) -> Result<(), Stop>
     ensures whole { OnOk result (Appends (K.written sink.old) (K.written sink.new) piece.now) }
     ensures cut { IfErr result (λ stop. AppendsPrefix (K.written sink.old) (K.written sink.new) piece.now) }
     ensures later { K.faults sink.old ≤ K.faults sink.new }
+    ensures kept { OnOk result (K.faults sink.new ≡ K.faults sink.old) }
     ensures cause { IfErr result (WriteCause (K.faults sink.old) (K.faults sink.new)) }
 {
     match put_all(sink, piece) {

@@ -1,4 +1,5 @@
-//! Worked rows: whole jobs, and their reports. In a text `*` stands for 126 zeros, so `11*` is a line of 64 bytes.
+//! Worked rows: whole jobs, and their reports. In a text `*` stands for 126 zeros, so `11*` is a line of 64 bytes, and `@` for
+//! the first line of the second row.
 use crate::replay;
 use ddr_io::{PlainSink, PlainSource, RealSink, RealSource, Status};
 use std::alloc::Global;
@@ -88,9 +89,9 @@ const ROWS: [Row; 12] = [
     // Requests change places.
     Row {
         header: TINY,
-        trace: "W 0 11*\nR 2048\nW 0 22*\nR 0\n",
+        trace: "W 0 11*\nR @\nW 0 22*\nR 0\n",
         writes: TINY_WRITES,
-        lines: "C 32 0000 0000\nC 35 002d 0c00\nC 47 002d 0c00\nC 63 003d 0400\nC 66 001b\nC 70 0004 0000\nC 73 003d 0400\nD 2 2048 00* ok\nD 4 0 22* ok\nC 76 000b\n",
+        lines: "C 32 0000 0000\nC 35 002d 0c00\nC 47 002d 0c00\nC 63 003d 0400\nC 66 001b\nC 70 0004 0000\nC 73 003d 0400\nD 2 @ 00* ok\nD 4 0 22* ok\nC 76 000b\n",
         stats: [2, 2, 2, 2, 0, 0, 0, 0, 0, 0, 1, 0, 0, 0],
         end: 77,
     },
@@ -151,18 +152,18 @@ const ROWS: [Row; 12] = [
     // The alert.
     Row {
         header: TWO_ROWS,
-        trace: "R 0\nI 0\nR 2048\nI 0\nR 0\nI 0\nR 2048\nI 0\nR 0\nI 0\nR 2048\nI 0\nR 0\nI 0\nR 2048\nI 0\nR 0\nI 0\nR 2048\nI 0\nR 0\n",
+        trace: "R 0\nI 0\nR @\nI 0\nR 0\nI 0\nR @\nI 0\nR 0\nI 0\nR @\nI 0\nR 0\nI 0\nR @\nI 0\nR 0\nI 0\nR @\nI 0\nR 0\n",
         writes: TWO_ROWS_WRITES,
-        lines: "C 32 0000 0000\nC 35 003d 0400\nD 1 0 00* ok\nC 38 001b\nC 42 0004 0000\nC 45 003d 0400\nD 3 2048 00* ok\nC 48 001b\nC 52 0000 0000\nC 55 003d 0400\nD 5 0 00* ok\nC 58 001b\nC 62 0004 0000\nC 65 003d 0400\nD 7 2048 00* ok\nC 68 001b\nC 72 0000 0000\nC 75 003d 0400\nD 9 0 00* ok\nC 78 001b\nC 82 0004 0000\nC 85 003d 0400\nD 11 2048 00* ok\nC 88 001b\nC 92 0000 0000\nC 95 003d 0400\nD 13 0 00* ok\nC 98 001b\nC 102 0004 0000\nC 105 003d 0400\nD 15 2048 00* ok\nC 108 001b\nC 112 0000 0000\nC 115 003d 0400\nD 17 0 00* ok\nC 118 001b\nC 122 0004 0000\nC 125 003d 0400\nD 19 2048 00* ok\nC 128 000b\nC 132 0013\nC 156 0000 0000\nC 159 003d 0400\nD 21 0 00* ok\nC 162 000b\nC 166 0013\n",
+        lines: "C 32 0000 0000\nC 35 003d 0400\nD 1 0 00* ok\nC 38 001b\nC 42 0004 0000\nC 45 003d 0400\nD 3 @ 00* ok\nC 48 001b\nC 52 0000 0000\nC 55 003d 0400\nD 5 0 00* ok\nC 58 001b\nC 62 0004 0000\nC 65 003d 0400\nD 7 @ 00* ok\nC 68 001b\nC 72 0000 0000\nC 75 003d 0400\nD 9 0 00* ok\nC 78 001b\nC 82 0004 0000\nC 85 003d 0400\nD 11 @ 00* ok\nC 88 001b\nC 92 0000 0000\nC 95 003d 0400\nD 13 0 00* ok\nC 98 001b\nC 102 0004 0000\nC 105 003d 0400\nD 15 @ 00* ok\nC 108 001b\nC 112 0000 0000\nC 115 003d 0400\nD 17 0 00* ok\nC 118 001b\nC 122 0004 0000\nC 125 003d 0400\nD 19 @ 00* ok\nC 128 000b\nC 132 0013\nC 156 0000 0000\nC 159 003d 0400\nD 21 0 00* ok\nC 162 000b\nC 166 0013\n",
         stats: [11, 11, 0, 11, 0, 0, 2, 0, 0, 2, 5, 0, 0, 0],
         end: 167,
     },
     // Management of one bank address.
     Row {
         header: MANAGED,
-        trace: "R 0\nI 0\nR 2048\nI 0\nR 0\nI 0\nR 2048\nI 0\nR 0\nI 0\nR 2048\nI 0\nR 0\nI 0\nR 2048\nI 0\nR 0\n",
+        trace: "R 0\nI 0\nR @\nI 0\nR 0\nI 0\nR @\nI 0\nR 0\nI 0\nR @\nI 0\nR 0\nI 0\nR @\nI 0\nR 0\n",
         writes: MANAGED_WRITES,
-        lines: "C 32 0000 0000\nC 35 003d 0400\nD 1 0 00* ok\nC 38 001b\nC 42 0004 0000\nC 45 003d 0400\nD 3 2048 00* ok\nC 48 001b\nC 52 0000 0000\nC 55 003d 0400\nD 5 0 00* ok\nC 58 001b\nC 62 0004 0000\nC 65 003d 0400\nD 7 2048 00* ok\nC 68 001b\nC 72 0000 0000\nC 75 003d 0400\nD 9 0 00* ok\nC 78 001b\nC 82 0004 0000\nC 85 003d 0400\nD 11 2048 00* ok\nC 88 001b\nC 92 0000 0000\nC 95 003d 0400\nD 13 0 00* ok\nC 98 001b\nC 102 0004 0000\nC 105 003d 0400\nD 15 2048 00* ok\nC 108 040b\nC 112 0413\nC 128 0000 0000\nC 131 003d 0400\nD 17 0 00* ok\nC 134 000b\n",
+        lines: "C 32 0000 0000\nC 35 003d 0400\nD 1 0 00* ok\nC 38 001b\nC 42 0004 0000\nC 45 003d 0400\nD 3 @ 00* ok\nC 48 001b\nC 52 0000 0000\nC 55 003d 0400\nD 5 0 00* ok\nC 58 001b\nC 62 0004 0000\nC 65 003d 0400\nD 7 @ 00* ok\nC 68 001b\nC 72 0000 0000\nC 75 003d 0400\nD 9 0 00* ok\nC 78 001b\nC 82 0004 0000\nC 85 003d 0400\nD 11 @ 00* ok\nC 88 001b\nC 92 0000 0000\nC 95 003d 0400\nD 13 0 00* ok\nC 98 001b\nC 102 0004 0000\nC 105 003d 0400\nD 15 @ 00* ok\nC 108 040b\nC 112 0413\nC 128 0000 0000\nC 131 003d 0400\nD 17 0 00* ok\nC 134 000b\n",
         stats: [9, 9, 0, 9, 0, 0, 0, 1, 0, 0, 5, 0, 0, 0],
         end: 135,
     },
@@ -177,13 +178,31 @@ const ROWS: [Row; 12] = [
     },
 ];
 
-// The text with each `*` written out.
-fn written_out(alloc: Global, text: &str) -> Result<Vec<u8>, Fail> {
+// How the separator is spelled, and the first line of the second row: 256 times the groups.
+struct Shape {
+    separator: &'static str,
+    second_row: &'static str,
+}
+
+const EIGHT_GROUPS: Shape = Shape {
+    separator: "---",
+    second_row: "2048",
+};
+
+const FOUR_GROUPS: Shape = Shape {
+    separator: "--- 2 4 4",
+    second_row: "1024",
+};
+
+// The text with each `*` and each `@` written out.
+fn written_out(alloc: Global, shape: &Shape, text: &str) -> Result<Vec<u8>, Fail> {
     let zeros = [b'0'; 126];
     let mut bytes = Vec::new(alloc);
     for byte in text.as_bytes() {
         if *byte == b'*' {
             bytes.extend_from_slice(&zeros)?;
+        } else if *byte == b'@' {
+            bytes.extend_from_slice(shape.second_row.as_bytes())?;
         } else {
             bytes.push(*byte)?;
         }
@@ -192,13 +211,15 @@ fn written_out(alloc: Global, text: &str) -> Result<Vec<u8>, Fail> {
 }
 
 // A job of this header and trace.
-fn job_of(alloc: Global, header: &str, trace: &str) -> Result<Vec<u8>, Fail> {
-    let text = format!(in alloc; "{header}---\n{trace}")?;
-    written_out(alloc, &text)
+fn job_of(alloc: Global, shape: &Shape, header: &str, trace: &str) -> Result<Vec<u8>, Fail> {
+    let separator = shape.separator;
+    let text = format!(in alloc; "{header}{separator}\n{trace}")?;
+    written_out(alloc, shape, &text)
 }
 
 // The report of a row, with this text behind its E line.
-fn report_of(alloc: Global, row: &Row, behind: &str) -> Result<Vec<u8>, Fail> {
+fn report_of(alloc: Global, shape: &Shape, row: &Row, behind: &str) -> Result<Vec<u8>, Fail> {
+    let separator = shape.separator;
     let Row {
         header,
         writes,
@@ -207,24 +228,51 @@ fn report_of(alloc: Global, row: &Row, behind: &str) -> Result<Vec<u8>, Fail> {
         end,
         ..
     } = row;
-    let mut text = format!(in alloc; "{header}---\n{writes}{lines}")?;
+    let mut text = format!(in alloc; "{header}{separator}\n{writes}{lines}")?;
     for (name, number) in NAMES.iter().zip(stats) {
         let line = format!(in alloc; "S {name} {number}\n")?;
         text.push_str(&line)?;
     }
     let last = format!(in alloc; "E {end}\n{behind}")?;
     text.push_str(&last)?;
-    written_out(alloc, &text)
+    written_out(alloc, shape, &text)
 }
 
 #[test]
 fn jobs_are_served(rt: HostRuntime) -> Result<(), Fail> {
     let alloc = rt.alloc();
     for row in &ROWS {
-        let mut source = PlainSource::new(job_of(alloc, row.header, row.trace)?);
+        let mut source = PlainSource::new(job_of(alloc, &EIGHT_GROUPS, row.header, row.trace)?);
         let mut sink = PlainSink::new(alloc);
         assert_eq!(rt; replay(alloc, &mut source, &mut sink), Status::Ok);
-        let want = report_of(alloc, row, "")?;
+        let want = report_of(alloc, &EIGHT_GROUPS, row, "")?;
+        assert_eq!(rt; sink.bytes(), want.as_slice());
+    }
+    Ok(())
+}
+
+// A read of line 4, which lies in another bank where there are 4 groups.
+const LINE_FOUR: Row = Row {
+    header: TINY,
+    trace: "R 4\n",
+    writes: TINY_WRITES,
+    lines: "C 32 0040 0000\nC 35 007d 0400\nD 1 4 00* ok\nC 38 000b\n",
+    stats: [1, 1, 0, 1, 0, 0, 0, 0, 0, 0, 1, 0, 0, 0],
+    end: 39,
+};
+
+// Jobs of group 0 go alike in both shapes: the alert, the management of one bank address, with its precharge, and the
+// refreshes of one address after the other.
+#[test]
+fn jobs_of_four_groups_are_served(rt: HostRuntime) -> Result<(), Fail> {
+    let alloc = rt.alloc();
+    for row in [
+        &LINE_FOUR, &ROWS[0], &ROWS[2], &ROWS[9], &ROWS[10], &ROWS[11],
+    ] {
+        let mut source = PlainSource::new(job_of(alloc, &FOUR_GROUPS, row.header, row.trace)?);
+        let mut sink = PlainSink::new(alloc);
+        assert_eq!(rt; replay(alloc, &mut source, &mut sink), Status::Ok);
+        let want = report_of(alloc, &FOUR_GROUPS, row, "")?;
         assert_eq!(rt; sink.bytes(), want.as_slice());
     }
     Ok(())
@@ -246,10 +294,10 @@ fn a_third_line_is_refused(rt: HostRuntime) -> Result<(), Fail> {
     let first = &ROWS[0];
     for (third, last) in THIRD_LINES {
         let trace = format!(in alloc; "W 0 11*\nR 0\n{third}")?;
-        let mut source = PlainSource::new(job_of(alloc, TINY, &trace)?);
+        let mut source = PlainSource::new(job_of(alloc, &EIGHT_GROUPS, TINY, &trace)?);
         let mut sink = PlainSink::new(alloc);
         assert_eq!(rt; replay(alloc, &mut source, &mut sink), Status::Refused);
-        let want = report_of(alloc, first, last)?;
+        let want = report_of(alloc, &EIGHT_GROUPS, first, last)?;
         assert_eq!(rt; sink.bytes(), want.as_slice());
     }
     Ok(())
@@ -301,7 +349,7 @@ impl Write for Full {
 #[test]
 fn a_read_of_the_header_fails(rt: HostRuntime) -> Result<(), Fail> {
     let alloc = rt.alloc();
-    let job = job_of(alloc, TINY, "W 0 11*\nR 0\n")?;
+    let job = job_of(alloc, &EIGHT_GROUPS, TINY, "W 0 11*\nR 0\n")?;
     let mut source = RealSource::new(Failing {
         bytes: &job,
         reads: 2,
@@ -319,10 +367,10 @@ fn a_write_behind_the_header_fails(rt: HostRuntime) -> Result<(), Fail> {
         bytes: Vec::new(alloc),
         writes: 1,
     };
-    let mut source = PlainSource::new(job_of(alloc, TINY, "W 0 11*\nR 0\n")?);
+    let mut source = PlainSource::new(job_of(alloc, &EIGHT_GROUPS, TINY, "W 0 11*\nR 0\n")?);
     let mut sink = RealSink::new(&mut full);
     assert_eq!(rt; replay(alloc, &mut source, &mut sink), Status::WriteFault);
-    let want = job_of(alloc, TINY, "")?;
+    let want = job_of(alloc, &EIGHT_GROUPS, TINY, "")?;
     assert_eq!(rt; full.bytes.as_slice(), want.as_slice());
     Ok(())
 }
@@ -336,7 +384,7 @@ fn the_last_read_fails(rt: HostRuntime) -> Result<(), Fail> {
         let text = format!(in alloc; "R {line}\n")?;
         trace.push_str(&text)?;
     }
-    let job = job_of(alloc, TINY, &trace)?;
+    let job = job_of(alloc, &EIGHT_GROUPS, TINY, &trace)?;
     let mut source = RealSource::new(Failing {
         bytes: &job,
         reads: 1000,

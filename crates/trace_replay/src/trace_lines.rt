@@ -1,5 +1,5 @@
 //! Reading the lines of a trace, one at a time.
-ghost use Rattle.std.specs.Prelude.{ℕ, ◌≡◌, ◌<◌, ◌≤◌, List, if◌then◌else◌, IfOk, IfErr};
+ghost use Rattle.std.specs.Prelude.{ℕ, ◌≡◌, ◌<◌, ◌≤◌, List, if◌then◌else◌, IfOk, IfErr, OnOk};
 ghost use Rattle.ondie_ecc.specs.Bits.{IsBytes};
 ghost use Rattle.ddr_io.specs.Line.{next_bytes};
 ghost use Rattle.ddr_text.specs.declared.lines.TraceLine.{TraceLine as AnyLine};
@@ -53,6 +53,7 @@ pub(crate) fn next_line<S: Source>(
     ensures going_on { IfOk result (GoesOn reader.new.last) }
     ensures unread { IfErr result (λ stop. IsUnread reader.new.held (next_bytes reader.old.held (S.left source.old)) (next_bytes reader.new.held (S.left source.new))) }
     ensures later { S.faults source.old ≤ S.faults source.new }
+    ensures kept { OnOk result (S.faults source.new ≡ S.faults source.old) }
     ensures cause { IfErr result (ReadCause (S.faults source.old) (S.faults source.new)) }
 {
     match reader.next_line(source) {

@@ -44,6 +44,7 @@ impl Progress {
         ensures fewer { IfOk result (λ goes_on. goes_on ≡ true → left_of self.new < left_of self.old) }
         ensures reader { (last : AnyEnd) → MayGoOn self.old.ahead last → MayGoOn self.new.ahead last }
         ensures later { K.faults sink.old ≤ K.faults sink.new }
+        ensures kept { OnOk result (K.faults sink.new ≡ K.faults sink.old) }
         ensures cause { IfErr result (WriteCause (K.faults sink.old) (K.faults sink.new)) }
     {
         reports::laws::issues_a_command();
@@ -109,6 +110,7 @@ impl Progress {
         ensures ahead { self.new.ahead ≡ self.old.ahead }
         ensures finished { finished_of self.new.coupled ≡ finished_of self.old.coupled }
         ensures later { K.faults sink.old ≤ K.faults sink.new }
+        ensures kept { OnOk result (K.faults sink.new ≡ K.faults sink.old) }
         ensures cause { IfErr result (WriteCause (K.faults sink.old) (K.faults sink.new)) }
     {
         reports::laws::takes_from_the_held();
@@ -213,6 +215,7 @@ fn put_issued<K: Sink>(clock: Clock, command: &Command, sink: &mut K) -> Result<
     ensures whole { OnOk result (Appends (K.written sink.old) (K.written sink.new) (spelled (IssuedLine clock command.now))) }
     ensures cut { IfErr result (λ stop. AppendsPrefix (K.written sink.old) (K.written sink.new) (spelled (IssuedLine clock command.now))) }
     ensures later { K.faults sink.old ≤ K.faults sink.new }
+    ensures kept { OnOk result (K.faults sink.new ≡ K.faults sink.old) }
     ensures cause { IfErr result (WriteCause (K.faults sink.old) (K.faults sink.new)) }
 {
     put_line(&ReportLine::Issued(clock, *command), sink)

@@ -21,6 +21,7 @@ pub(crate) fn put_line<K: Sink>(line: &ReportLine, sink: &mut K) -> Result<(), S
     ensures whole { OnOk result (Appends (K.written sink.old) (K.written sink.new) (spelled line.now)) }
     ensures cut { IfErr result (λ stop. AppendsPrefix (K.written sink.old) (K.written sink.new) (spelled line.now)) }
     ensures later { K.faults sink.old ≤ K.faults sink.new }
+    ensures kept { OnOk result (K.faults sink.new ≡ K.faults sink.old) }
     ensures cause { IfErr result (WriteCause (K.faults sink.old) (K.faults sink.new)) }
 {
     let mut text = ArrayVec::new();
@@ -33,6 +34,7 @@ fn put_lines<K: Sink>(lines: &[ReportLine], sink: &mut K) -> Result<(), Stop>
     ensures whole { OnOk result (Appends (K.written sink.old) (K.written sink.new) (flat_map spelled lines.now)) }
     ensures cut { IfErr result (λ stop. AppendsPrefix (K.written sink.old) (K.written sink.new) (flat_map spelled lines.now)) }
     ensures later { K.faults sink.old ≤ K.faults sink.new }
+    ensures kept { OnOk result (K.faults sink.new ≡ K.faults sink.old) }
     ensures cause { IfErr result (WriteCause (K.faults sink.old) (K.faults sink.new)) }
 {
     for line in lines {
@@ -74,6 +76,7 @@ pub(crate) fn put_stats<K: Sink>(
     ensures whole { OnOk result (Appends (K.written sink.old) (K.written sink.new) (flat_map spelled (stat_lines (with_peak counts.now peak) scrub.now))) }
     ensures cut { IfErr result (λ stop. AppendsPrefix (K.written sink.old) (K.written sink.new) (flat_map spelled (stat_lines (with_peak counts.now peak) scrub.now))) }
     ensures later { K.faults sink.old ≤ K.faults sink.new }
+    ensures kept { OnOk result (K.faults sink.new ≡ K.faults sink.old) }
     ensures cause { IfErr result (WriteCause (K.faults sink.old) (K.faults sink.new)) }
 {
     put_lines(&lines_of(counts, peak, scrub), sink)
@@ -84,6 +87,7 @@ pub(crate) fn put_opening<K: Sink>(text: &HeaderText, sink: &mut K) -> Result<()
     ensures whole { OnOk result (Appends (K.written sink.old) (K.written sink.new) text.now) }
     ensures cut { IfErr result (λ stop. AppendsPrefix (K.written sink.old) (K.written sink.new) text.now) }
     ensures later { K.faults sink.old ≤ K.faults sink.new }
+    ensures kept { OnOk result (K.faults sink.new ≡ K.faults sink.old) }
     ensures cause { IfErr result (WriteCause (K.faults sink.old) (K.faults sink.new)) }
 {
     let bytes = text.bytes();

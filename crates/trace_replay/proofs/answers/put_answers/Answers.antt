@@ -9,7 +9,7 @@ answers-preserved g c = record {
   remains = λ h trace run before rs e.
       subst (λ (k : Kept). Remains h trace run before rs k (g.K.Sink.written c.args.sink.now) (g.K.Sink.written c.put_answer.new.sink)) (sym c.in-Some.ensures.some)
       (remains-next h trace run before rs c.answers.held (g.K.Sink.written c.args.sink.now) (g.K.Sink.written c.answers.sink) (g.K.Sink.written c.put_answer.new.sink) c.in-Some.served c.in-Some.ensures.first (c.answers.invariant.remains h trace run before rs e) c.in_ok-put_answer-in-Some.ensures.whole);
-  later = omega (arith, c.answers.invariant.later, c.put_answer.ensures.later);
+  kept = c.in_ok-put_answer-in-Some.ensures.kept ∙ c.answers.invariant.kept;
 }
 
 pub returns-in_err-put_answer-in-Some-clause-cut : goal.returns-in_err-put_answer-in-Some-clause-cut
@@ -24,3 +24,12 @@ returns-in-None-clause-held g c = λ h trace run before rs e.
 pub returns-in-None-clause-wrote : goal.returns-in-None-clause-wrote
 returns-in-None-clause-wrote g c = λ h trace run before rs e.
     remains-wrote h trace run before rs c.answers.held (g.K.Sink.written c.args.sink.now) (g.K.Sink.written c.answers.sink) c.in-None.ensures.first (c.answers.invariant.remains h trace run before rs e)
+
+pub returns-in_err-put_answer-in-Some-clause-later : goal.returns-in_err-put_answer-in-Some-clause-later
+returns-in_err-put_answer-in-Some-clause-later g c = omega (arith, c.put_answer.ensures.later, c.answers.invariant.kept)
+
+pub returns-in-None-clause-later : goal.returns-in-None-clause-later
+returns-in-None-clause-later g c = omega (arith, c.answers.invariant.kept)
+
+pub returns-in-None-clause-kept : goal.returns-in-None-clause-kept
+returns-in-None-clause-kept g c = c.answers.invariant.kept

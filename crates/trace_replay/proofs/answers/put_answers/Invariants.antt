@@ -11,7 +11,7 @@ abbrev pub invariant-answers : goal.invariant-answers
 invariant-answers g l = record {
   remains : (h : Header) (trace : List TraceLine) (run : Run) (before : ℕ) (rs : List Request) → l.initial.held ≡ kept_of h trace run before rs
       → Remains h trace run before rs l.held (g.K.Sink.written l.initial.sink) (g.K.Sink.written l.sink);
-  later : g.K.Sink.faults l.initial.sink ≤ g.K.Sink.faults l.sink;
+  kept : g.K.Sink.faults l.sink ≡ g.K.Sink.faults l.initial.sink;
 }
 
 abbrev pub decreases-answers : goal.decreases-answers

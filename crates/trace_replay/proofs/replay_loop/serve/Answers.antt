@@ -1,4 +1,4 @@
-use Rattle.std.proofs.Common.{arith, None}
+use Rattle.std.proofs.Common.{◌∙◌, None, arith}
 use Rattle.ddr_io.specs.Line.{next_bytes}
 use Rattle.std.proofs.lemmas.Result.{err_from_is_err_and}
 use Rattle.trace_replay.proofs.Under.{under-none}
@@ -50,6 +50,27 @@ turns-preserved g c =
           turned-under c.in_ok-turn.field-0 h c.turn.new.self start (next_bytes c.offer_all.new.reader.held (g.S.Source.left c.offer_all.new.source)) before (g.K.Sink.written c.turn.new.sink) c.if-not-branch.false
           (c.in_ok-turn.ensures.after h start (next_bytes c.offer_all.new.reader.held (g.S.Source.left c.offer_all.new.source)) before (c.in_ok-offer_all.ensures.ready h start before (g.K.Sink.written c.turns.sink) (c.turns.invariant.under h start before v)));
       going_on = c.turn.ensures.reader c.offer_all.new.reader.last c.in_ok-offer_all.ensures.going_on;
-      later = omega (arith, c.turns.invariant.later, c.offer_all.ensures.later);
-      later_written = omega (arith, c.turns.invariant.later_written, c.turn.ensures.later);
+      kept = c.in_ok-offer_all.ensures.kept ∙ c.turns.invariant.kept;
+      kept_written = c.in_ok-turn.ensures.kept ∙ c.turns.invariant.kept_written;
     }
+
+pub returns-then-not-branch-clause-kept : goal.returns-then-not-branch-clause-kept
+returns-then-not-branch-clause-kept g c = (c.in_ok-offer_all.ensures.kept ∙ c.turns.invariant.kept, c.in_ok-turn.ensures.kept ∙ c.turns.invariant.kept_written)
+
+pub returns-in_err-offer_all-clause-later : goal.returns-in_err-offer_all-clause-later
+returns-in_err-offer_all-clause-later g c = omega (arith, c.offer_all.ensures.later, c.turns.invariant.kept)
+
+pub returns-in_err-offer_all-clause-later_written : goal.returns-in_err-offer_all-clause-later_written
+returns-in_err-offer_all-clause-later_written g c = omega (arith, c.turns.invariant.kept_written)
+
+pub returns-in_err-turn-clause-later : goal.returns-in_err-turn-clause-later
+returns-in_err-turn-clause-later g c = omega (arith, c.offer_all.ensures.later, c.turns.invariant.kept)
+
+pub returns-in_err-turn-clause-later_written : goal.returns-in_err-turn-clause-later_written
+returns-in_err-turn-clause-later_written g c = omega (arith, c.turn.ensures.later, c.turns.invariant.kept_written)
+
+pub returns-then-not-branch-clause-later : goal.returns-then-not-branch-clause-later
+returns-then-not-branch-clause-later g c = omega (arith, c.offer_all.ensures.later, c.turns.invariant.kept)
+
+pub returns-then-not-branch-clause-later_written : goal.returns-then-not-branch-clause-later_written
+returns-then-not-branch-clause-later_written g c = omega (arith, c.turn.ensures.later, c.turns.invariant.kept_written)

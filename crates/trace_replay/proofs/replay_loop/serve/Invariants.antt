@@ -1,4 +1,4 @@
-use Rattle.std.proofs.Common.{◌≤◌, Option, List, ℕ}
+use Rattle.std.proofs.Common.{◌≡◌, Option, List, ℕ}
 use Rattle.ddr_io.specs.Line.{next_bytes}
 use Rattle.speed_bin.specs.declared.header.Header.{Header}
 use Rattle.ddr_text.specs.declared.lines.TraceLine.{TraceLine}
@@ -12,8 +12,8 @@ invariant-turns g l = record {
   under : (h : Header) (start before : Option (List ℕ)) → IsUnder h l.initial.progress start (next_bytes l.initial.reader.held (g.S.Source.left l.initial.source)) before (g.K.Sink.written l.initial.sink)
       → IsUnder h l.progress start (next_bytes l.reader.held (g.S.Source.left l.source)) before (g.K.Sink.written l.sink);
   going_on : MayGoOn l.progress.ahead l.reader.last;
-  later : g.S.Source.faults l.initial.source ≤ g.S.Source.faults l.source;
-  later_written : g.K.Sink.faults l.initial.sink ≤ g.K.Sink.faults l.sink;
+  kept : g.S.Source.faults l.source ≡ g.S.Source.faults l.initial.source;
+  kept_written : g.K.Sink.faults l.sink ≡ g.K.Sink.faults l.initial.sink;
 }
 
 abbrev pub decreases-turns : goal.decreases-turns

@@ -1,3 +1,4 @@
+use Rattle.std.proofs.Common.{◌∙◌}
 use Rattle.std.proofs.lemmas.Result.{err_from_is_err_and}
 use Rattle.ddr_io.specs.Line.{next_bytes}
 use Rattle.trace_replay.proofs.LoopServed.{ReportLaws, under-start, stops-at-once, stops-opening, stops-serving, served}
@@ -56,3 +57,6 @@ returns-clause-served g c =
     (under-start c.args.header.now c.in_ok-progress.progress start (next_bytes c.args.reader.now.held (g.S.Source.left c.args.source.now)) (g.K.Sink.written c.put_opening.new.sink) c.in_ok-progress.ensures.holds
     (c.in_ok-progress.ensures.read start (next_bytes c.args.reader.now.held (g.S.Source.left c.args.source.now)) read)))
     c.ending.ensures.clock c.ending.ensures.refusal c.ending.ensures.lines
+
+pub returns-clause-kept : goal.returns-clause-kept
+returns-clause-kept g c = (c.in_ok-serve.ensures.kept.0, c.in_ok-serve.ensures.kept.1 ∙ c.in_ok-put_opening.ensures.kept)

@@ -1,4 +1,4 @@
-use Rattle.std.proofs.Common.{◌≤◌, take}
+use Rattle.std.proofs.Common.{◌≡◌, take}
 use Rattle.std.specs.List.{flat_map}
 use Rattle.std.specs.Io.KnownBytes.{Appends}
 use Rattle.ddr_text.specs.Spelling.{spelled}
@@ -7,5 +7,5 @@ use Rattle.trace_replay.proofs.writing.put_lines.Given as goal
 abbrev pub invariant-loop-line : goal.invariant-loop-line
 invariant-loop-line g l = record {
   written : Appends (g.K.Sink.written l.initial.sink) (g.K.Sink.written l.sink) (flat_map spelled (take l.line-index l.lines));
-  later : g.K.Sink.faults l.initial.sink ≤ g.K.Sink.faults l.sink;
+  kept : g.K.Sink.faults l.sink ≡ g.K.Sink.faults l.initial.sink;
 }

@@ -18,3 +18,15 @@ returns-in_ok-next-in-Unknown-clause-under g c = λ h start before written u.
 pub returns-in_ok-next-in-Unknown-clause-fewer : goal.returns-in_ok-next-in-Unknown-clause-fewer
 returns-in_ok-next-in-Unknown-clause-fewer g c =
     subst (λ a. left_of (record c.args.self.now { ahead = a }) ≤ left_of c.args.self.now) (sym c.found-self.ensures) (left-next c.args.self.now c.in_ok-next-in-Unknown.next c.in-Unknown.is)
+
+pub returns-in_err-next-in-Unknown-clause-unasked : goal.returns-in_err-next-in-Unknown-clause-unasked
+returns-in_err-next-in-Unknown-clause-unasked g c = λ k. absurd (k c.in-Unknown.is)
+
+pub returns-in_err-next-in-Unknown-clause-known_still : goal.returns-in_err-next-in-Unknown-clause-known_still
+returns-in_err-next-in-Unknown-clause-known_still g c = λ k. absurd (k c.in-Unknown.is)
+
+pub returns-in_ok-next-in-Unknown-clause-unasked : goal.returns-in_ok-next-in-Unknown-clause-unasked
+returns-in_ok-next-in-Unknown-clause-unasked g c = λ k. absurd (k c.in-Unknown.is)
+
+pub returns-in_ok-next-in-Unknown-clause-known_still : goal.returns-in_ok-next-in-Unknown-clause-known_still
+returns-in_ok-next-in-Unknown-clause-known_still g c = λ k. absurd (k c.in-Unknown.is)

@@ -1,9 +1,29 @@
-use Rattle.std.proofs.Common.{ap, ◌≡◌, None, arith}
+use Rattle.std.proofs.Common.{ap, ◌≡◌, ◌∙◌, ℕ, None, arith}
 use Rattle.ddr_io.specs.Line.{next_bytes}
 use Rattle.trace_replay.specs.declared.trace_lines.Tally.{Tally}
+use Rattle.trace_replay.specs.Progress.{IsKnown}
+use Rattle.trace_replay.specs.declared.progress.Ahead.{Ahead}
+use Rattle.trace_replay.specs.declared.progress.Ahead.TheVariants.{Unknown, Waits, Passes, End, Refused}
+use Rattle.trace_replay.specs.declared.progress.Progress.{Progress}
 use Rattle.trace_replay.proofs.Pieces.{if_err}
 use Rattle.trace_replay.proofs.Under.{under-none, under-lines}
 use Rattle.trace_replay.proofs.progress.Progress.offer_all.Goals as goal
+
+-- a line that is refused is known
+refused-known : (ahead : Ahead) (reason : ℕ) → ahead ≡ Refused reason → IsKnown ahead
+refused-known Unknown reason e = λ f. cc
+refused-known (Waits line) reason e = λ f. cc
+refused-known (Passes clocks) reason e = λ f. cc
+refused-known End reason e = λ f. cc
+refused-known (Refused own) reason e = λ f. cc
+
+pub returns-in_err-look_ahead-clause-unasked : goal.returns-in_err-look_ahead-clause-unasked
+returns-in_err-look_ahead-clause-unasked g c = λ reason e.
+    let k = c.lines.invariant.unasked reason e in c.look_ahead.ensures.unasked (refused-known c.lines.self.ahead reason k.1) ∙ k.0
+
+pub returns-then-not-offer_next-clause-unasked : goal.returns-then-not-offer_next-clause-unasked
+returns-then-not-offer_next-clause-unasked g c = λ reason e.
+    let k = c.lines.invariant.unasked reason e in c.look_ahead.ensures.unasked (refused-known c.lines.self.ahead reason k.1) ∙ k.0
 
 pub returns-in_err-look_ahead-clause-cut : goal.returns-in_err-look_ahead-clause-cut
 returns-in_err-look_ahead-clause-cut g c =
@@ -40,5 +60,17 @@ lines-preserved g c =
       under = λ h start before written w. c.offer_next.ensures.under h start (next_bytes c.look_ahead.new.reader.held (g.S.Source.left c.look_ahead.new.source)) before written (c.in_ok-look_ahead.ensures.under h start before written (c.lines.invariant.under h start before written w));
       going_on = c.offer_next.ensures.goes_on c.look_ahead.new.reader.last c.in_ok-look_ahead.ensures.going_on;
       fewer = omega (arith, c.lines.invariant.fewer, c.look_ahead.ensures.fewer, c.offer_next.ensures.fewer);
-      later = omega (arith, c.lines.invariant.later, c.look_ahead.ensures.later);
+      kept = c.in_ok-look_ahead.ensures.kept ∙ c.lines.invariant.kept;
+      unasked = λ reason e.
+          let n = c.offer_next.ensures.refused reason (ap (λ (p : Progress). p.ahead) (c.look_ahead.ensures.known_still (refused-known c.lines.self.ahead reason (c.lines.invariant.unasked reason e).1)) ∙ (c.lines.invariant.unasked reason e).1) in
+          let f = c.if-not-offer_next.false in cc;
     }
+
+pub returns-in_err-look_ahead-clause-later : goal.returns-in_err-look_ahead-clause-later
+returns-in_err-look_ahead-clause-later g c = omega (arith, c.look_ahead.ensures.later, c.lines.invariant.kept)
+
+pub returns-then-not-offer_next-clause-later : goal.returns-then-not-offer_next-clause-later
+returns-then-not-offer_next-clause-later g c = omega (arith, c.look_ahead.ensures.later, c.lines.invariant.kept)
+
+pub returns-then-not-offer_next-clause-kept : goal.returns-then-not-offer_next-clause-kept
+returns-then-not-offer_next-clause-kept g c = c.in_ok-look_ahead.ensures.kept ∙ c.lines.invariant.kept

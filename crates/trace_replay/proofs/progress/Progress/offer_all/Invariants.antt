@@ -1,9 +1,10 @@
-use Rattle.std.proofs.Common.{ℕ, ◌≤◌, ◌-◌, Option, List}
+use Rattle.std.proofs.Common.{ℕ, ◌≡◌, ◌≤◌, ◌-◌, Option, List}
 use Rattle.ddr_io.specs.Line.{next_bytes}
 use Rattle.speed_bin.specs.declared.header.Header.{Header}
 use Rattle.ddr_text.specs.declared.lines.TraceLine.{TraceLine}
 use Rattle.reports.specs.Runs.{Run}
 use Rattle.trace_replay.specs.Job.{MOST}
+use Rattle.trace_replay.specs.declared.progress.Ahead.TheVariants.{Refused}
 use Rattle.trace_replay.specs.Progress.{Holds, IsUnder, MayGoOn, left_of}
 use Rattle.trace_replay.proofs.progress.Progress.offer_all.Given as goal
 
@@ -14,7 +15,8 @@ invariant-lines g l = record {
       → IsUnder h l.self start (next_bytes l.reader.held (g.S.Source.left l.source)) before written;
   going_on : MayGoOn l.self.ahead l.reader.last;
   fewer : left_of l.self ≤ left_of l.initial.self;
-  later : g.S.Source.faults l.initial.source ≤ g.S.Source.faults l.source;
+  kept : g.S.Source.faults l.source ≡ g.S.Source.faults l.initial.source;
+  unasked : (reason : ℕ) → l.initial.self.ahead ≡ Refused reason → (l.source ≡ l.initial.source) × (l.self.ahead ≡ Refused reason);
 }
 
 abbrev pub decreases-lines : goal.decreases-lines
