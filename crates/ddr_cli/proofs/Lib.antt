@@ -1,5 +1,10 @@
+mod Copied
+mod Newer
 pub mod MadeJob
 pub mod MadeRun
 pub mod MadeWords
 pub mod OneWord
+pub mod OutputLemmas
 pub mod ShowLemmas
+mod UpgradeLemmas
+mod UpgradedAs

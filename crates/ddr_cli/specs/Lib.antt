@@ -1,5 +1,8 @@
 pub mod AtEnd
 pub mod Fault
 pub mod Made
+pub mod Output
 pub mod Shown
+pub mod Upgraded
+pub mod Wording
 pub mod Words

@@ -18,6 +18,10 @@ IsAudit words = map string_bytes words ≡ codes "audit" ∷ []
 abbrev pub IsShow : List (String Global) → Type 0
 IsShow words = map string_bytes words ≡ codes "show" ∷ []
 
+-- the one word is `upgrade`
+abbrev pub IsUpgrade : List (String Global) → Type 0
+IsUpgrade words = map string_bytes words ≡ codes "upgrade" ∷ []
+
 -- the words are `gen`, and then two that spell the seed and the number of requests
 abbrev pub IsGen : List (String Global) → ℕ → ℕ → Type 0
 IsGen words seed requests = (rest : List (List ℕ)) × (map string_bytes words ≡ codes "gen" ∷ rest) × (seed_and_requests rest ≡ Some (seed, requests))
@@ -35,6 +39,7 @@ abbrev pub IsOfForm : List (String Global) → Form → Type 0
 IsOfForm words form.Replay = IsReplay words
 IsOfForm words form.Audit = IsAudit words
 IsOfForm words form.Show = IsShow words
+IsOfForm words form.Upgrade = IsUpgrade words
 IsOfForm words (form.Gen seed requests) = IsGen words seed requests
 IsOfForm words (form.GenRun seed requests) = IsGenRun words seed requests
 

@@ -14,6 +14,8 @@ pub enum Form {
     Audit,
     /// `show`.
     Show,
+    /// `upgrade`.
+    Upgrade,
     /// `gen` with a seed and a number of requests.
     Gen(u64, u64),
     /// `gen run` with a seed and a number of requests.
@@ -30,6 +32,8 @@ pub fn form_of(words: &[String]) -> Option<Form>
         Some(Form::Audit)
     } else if is_word(words, "show") {
         Some(Form::Show)
+    } else if is_word(words, "upgrade") {
+        Some(Form::Upgrade)
     } else {
         made_form(words)
     }

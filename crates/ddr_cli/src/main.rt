@@ -1,5 +1,5 @@
 //! The program: it reads a job or a report on standard input, and writes a report, a verdict or its commands on standard
-//! output; or it makes a job.
+//! output; or it writes a report in version 2, or makes a job.
 #![tactic(auto)]
 
 mod at_end;
@@ -7,6 +7,7 @@ mod at_end;
 mod audit_tests;
 mod fault;
 mod form;
+pub mod laws;
 mod made_run;
 mod run;
 mod showing;
@@ -15,6 +16,12 @@ mod shown;
 mod stress_tests;
 #[cfg(test)]
 mod tests;
+mod upgrading;
+#[cfg(test)]
+mod version_stress_tests;
+#[cfg(test)]
+mod version_tests;
+mod writing;
 
 pub use at_end::at_end;
 use ddr_io::{RealSink, RealSource, Status};

@@ -10,10 +10,12 @@ ghost use Rattle.made_jobs.specs.Made.{made};
 ghost use Rattle.made_jobs.specs.Writing.{Writes};
 ghost use Rattle.ddr_cli.specs.Made.{MadeAnswers};
 ghost use Rattle.ddr_cli.specs.Shown.{ShowAnswers};
-ghost use Rattle.ddr_cli.specs.Words.{IsAudit, IsGen, IsGenRun, IsListed, IsReplay, IsShow, Makes};
+ghost use Rattle.ddr_cli.specs.Upgraded.{UpgradeAnswers};
+ghost use Rattle.ddr_cli.specs.Words.{IsAudit, IsGen, IsGenRun, IsListed, IsReplay, IsShow, IsUpgrade, Makes};
 
 use crate::made_run::run_made;
 use crate::showing::show;
+use crate::upgrading::upgrade;
 use crate::{Form, form_of};
 use ddr_io::{Sink, Source, Status};
 use log_auditor::audit;
@@ -46,6 +48,9 @@ pub fn run<S: Source, K: Sink>(
     // With the word `show`: its commands in readable form.
     ensures shown { IsShow words.now → ShowAnswers result (S.left source.old) (S.left source.new) (K.written sink.old) (K.written sink.new) }
 
+    // With the word `upgrade`: the report in version 2.
+    ensures upgraded { IsUpgrade words.now → UpgradeAnswers result (S.left source.old) (S.left source.new) (K.written sink.old) (K.written sink.new) }
+
     // With the word `gen`: the made job.
     ensures made { (seed requests : ℕ) → IsGen words.now seed requests → Writes result (K.written sink.old) (K.written sink.new) (made seed requests) }
 
@@ -64,6 +69,7 @@ pub fn run<S: Source, K: Sink>(
         Some(Form::Replay) => replay(alloc, source, sink),
         Some(Form::Audit) => audit(alloc, source, sink),
         Some(Form::Show) => show(alloc, source, sink),
+        Some(Form::Upgrade) => upgrade(alloc, source, sink),
         Some(Form::Gen(seed, requests)) => write_job(seed, requests, sink),
         Some(Form::GenRun(seed, requests)) => run_made(alloc, seed, requests, sink),
         None => Status::Usage,

@@ -143,7 +143,7 @@ fn faults_are_told(rt: HostRuntime) -> Result<(), Fail> {
     let rows = [
         (
             Status::Usage,
-            "usage: ddr replay | audit | show | gen [run] SEED REQUESTS",
+            "usage: ddr replay | audit | show | gen [run] SEED REQUESTS | upgrade",
         ),
         (Status::ReadFault, "read fault"),
         (Status::WriteFault, "write fault"),
