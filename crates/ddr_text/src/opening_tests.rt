@@ -93,11 +93,24 @@ fn a_cycle_is_checked(rt: HostRuntime) -> Result<(), Fail> {
     Ok(())
 }
 
-// Before a separator, behind a header that is right and behind one that is not.
+// The reasons to refuse a line before a separator: behind a header that is right, behind one that is not, and without its
+// line feed.
+fn reasons_at(alloc: Global, line: &str) -> Result<[Option<u8>; 3], Fail> {
+    let whole = format!(in alloc; "{HEADER}{line}\n---\n")?;
+    let wrong = format!(in alloc; "format = \n{line}\n")?;
+    let unended = format!(in alloc; "{HEADER}{line}")?;
+    Ok([
+        reason_of(alloc, whole.as_bytes().to_vec(alloc)?)?,
+        reason_of(alloc, wrong.as_bytes().to_vec(alloc)?)?,
+        reason_of(alloc, unended.as_bytes().to_vec(alloc)?)?,
+    ])
+}
+
+const FAULTY: [Option<u8>; 3] = [Some(29), Some(29), Some(16)];
+
 #[test]
-fn faulty_separators(rt: HostRuntime) -> Result<(), Fail> {
-    let alloc = rt.alloc();
-    let lines = [
+fn separators_of_other_fields(rt: HostRuntime) -> Result<(), Fail> {
+    for line in [
         "--- ",
         "---  ",
         "--- x",
@@ -105,18 +118,47 @@ fn faulty_separators(rt: HostRuntime) -> Result<(), Fail> {
         "--- 2",
         "--- 2 4",
         "--- 2 4 8 1",
+    ] {
+        assert_eq!(rt; reasons_at(rt.alloc(), line)?, FAULTY, "{line}");
+    }
+    Ok(())
+}
+
+#[test]
+fn separators_with_other_spaces(rt: HostRuntime) -> Result<(), Fail> {
+    for line in [
         "---  2 4 8",
         "--- 2  4 8",
         "--- 2 4 8 ",
         "--- 2 4 8\r",
         "--- 1 4 8",
         "--- 3 4 8",
+    ] {
+        assert_eq!(rt; reasons_at(rt.alloc(), line)?, FAULTY, "{line}");
+    }
+    Ok(())
+}
+
+#[test]
+fn separators_whose_numbers_are_none(rt: HostRuntime) -> Result<(), Fail> {
+    for line in [
         "--- 02 4 8",
         "--- 2 04 8",
         "--- 2 4 08",
         "--- 2 +4 8",
         "--- 2 4 -8",
         "--- 2 x 8",
+        "--- 2 18446744073709551616 8",
+        "--- 2 4 99999999999999999999999999999999999999",
+    ] {
+        assert_eq!(rt; reasons_at(rt.alloc(), line)?, FAULTY, "{line}");
+    }
+    Ok(())
+}
+
+#[test]
+fn separators_out_of_range(rt: HostRuntime) -> Result<(), Fail> {
+    for line in [
         "--- 2 0 8",
         "--- 2 1 8",
         "--- 2 6 8",
@@ -127,28 +169,8 @@ fn faulty_separators(rt: HostRuntime) -> Result<(), Fail> {
         "--- 2 8 4",
         "--- 2 4 264",
         "--- 2 4294967300 8",
-        "--- 2 18446744073709551616 8",
-        "--- 2 4 99999999999999999999999999999999999999",
-    ];
-    for line in lines {
-        let whole = format!(in alloc; "{HEADER}{line}\n---\n")?;
-        assert_eq!(rt;
-            reason_of(alloc, whole.as_bytes().to_vec(alloc)?)?,
-            Some(29),
-            "{line}"
-        );
-        let wrong = format!(in alloc; "format = \n{line}\n")?;
-        assert_eq!(rt;
-            reason_of(alloc, wrong.as_bytes().to_vec(alloc)?)?,
-            Some(29),
-            "{line}"
-        );
-        let unended = format!(in alloc; "{HEADER}{line}")?;
-        assert_eq!(rt;
-            reason_of(alloc, unended.as_bytes().to_vec(alloc)?)?,
-            Some(16),
-            "{line}"
-        );
+    ] {
+        assert_eq!(rt; reasons_at(rt.alloc(), line)?, FAULTY, "{line}");
     }
     Ok(())
 }
