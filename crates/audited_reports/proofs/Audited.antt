@@ -7,7 +7,7 @@ use Rattle.ddr_io.specs.declared.status.Status.TheVariants as status
 use Rattle.command_words.specs.Geometry.{IsGroups, lines_of}
 use Rattle.ddr_text.specs.AcceptedReport.{ReportLines}
 use Rattle.ddr_text.specs.Opening.{Accepts, opening_of, parts_of}
-use Rattle.ddr_text.specs.ReportParts.{Refusal, opening, places_of, refusal_lines}
+use Rattle.ddr_text.specs.ReportParts.{Refusal, places_of, refusal_lines}
 use Rattle.ddr_text.specs.Spelling.{spelled}
 use Rattle.ddr_text.specs.declared.lines.ReportLine.{ReportLine}
 use Rattle.ddr_text.specs.declared.lines.ReportLine.TheVariants.{Issued, Value, Flip, Stat, End, Refused}
@@ -114,7 +114,7 @@ read-lines laws h trace run clock refusal accepted limits told r =
     (whole-stands h trace run clock refusal (laws.device h trace run) accepted limits told r)
 
 found : Laws → (h : Header) (job text rest : List ℕ) (trace : List TraceLine) (run : Run) (clock : ℕ) (refusal : Option Refusal) → IsAccepted h → opening_of job ≡ Accepts h text rest → IsWithinLimits h trace → IsTold refusal
-    → IsRun h trace run clock → finding_of (opening text ++ flat_map spelled (whole h trace run clock refusal)) ≡ fine_or None
+    → IsRun h trace run clock → finding_of (text ++ flat_map spelled (whole h trace run clock refusal)) ≡ fine_or None
 found laws h job text rest trace run clock refusal accepted opens limits told r =
     let lines = whole h trace run clock refusal in
     ap found_in (reopens h job text rest (flat_map spelled lines) opens)
@@ -128,7 +128,7 @@ said bytes e = record { finding = ap is_fine e; text = ap finding_text e; status
 pub audited : Laws → (h : Header) (job text rest : List ℕ) (trace : List TraceLine) (refusal : Option Refusal) (bytes : List ℕ) → IsAccepted h → opening_of job ≡ Accepts h text rest → IsWithinLimits h trace → IsTold refusal
     → IsReportOf spelled h text trace refusal bytes → IsAuditedOk bytes
 audited laws h job text rest trace refusal bytes accepted opens limits told written =
-    subst IsAuditedOk (sym written.3) (said (opening text ++ flat_map spelled (whole h trace written.0 written.1 refusal)) (found laws h job text rest trace written.0 written.1 refusal accepted opens limits told written.2))
+    subst IsAuditedOk (sym written.3) (said (text ++ flat_map spelled (whole h trace written.0 written.1 refusal)) (found laws h job text rest trace written.0 written.1 refusal accepted opens limits told written.2))
 
 -- ---- The answer of an audit
 

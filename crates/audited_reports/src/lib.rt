@@ -10,7 +10,7 @@ ghost use Rattle.ddr_text.specs.declared.lines.TraceLine.{TraceLine};
 ghost use Rattle.log_auditor.specs.Findings.{Answers};
 ghost use Rattle.speed_bin.specs.Header.{IsAccepted};
 ghost use Rattle.speed_bin.specs.declared.header.Header.{Header};
-ghost use Rattle.ddr_text.specs.ReportParts.{Refusal, opening};
+ghost use Rattle.ddr_text.specs.ReportParts.{Refusal};
 ghost use Rattle.reports.specs.Whole.{IsReportOf};
 ghost use Rattle.audited_reports.specs.Audited.{IsAuditedOk, IsTold, IsWithinLimits, SaysOk};
 
@@ -22,7 +22,7 @@ pub fn opened_header_is_accepted()
 /// The opening of a job opens the same way whatever bytes it begins: with the same header and text, and these bytes behind it.
 pub fn opening_opens_again()
     ensures opens { (h : Header) (job text rest more : List ℕ) → opening_of job ≡ Accepts h text rest
-        → opening_of (opening text ++ more) ≡ Accepts h text more }
+        → opening_of (text ++ more) ≡ Accepts h text more }
 {}
 
 /// Every finished report of a job is audited Ok: the bytes that a replay writes of a job whose opening is accepted and

@@ -6,7 +6,7 @@ ghost use Rattle.ddr_cli.specs.Shown.{shown_bank, shown_command, shown_line};
 
 use arrayvec::ArrayVec;
 use command_words::{Bank, BankAddr, Command};
-use ddr_text::ReportLine;
+use ddr_text::{ReportLine, put_number, put_text};
 
 // Appends what is shown of a line: a C line's clock and its command, and nothing of another.
 #[tactic(auto, unfolding(crate::specs::Shown::shown_line))]
@@ -89,21 +89,4 @@ fn put_field(name: &[u8], number: u64, out: &mut ArrayVec<u8, 512>)
 {
     put_text(name, out);
     put_number(number, out);
-}
-
-fn put_text(text: &[u8], out: &mut ArrayVec<u8, 512>)
-    requires { length out.old.items + length text.now ≤ 512 }
-    ensures { out.new.items ≡ out.old.items ++ text.now }
-{
-    let _ = out.try_extend_from_slice(text);
-}
-
-// Appends a number in decimal digits.
-fn put_number(number: u64, out: &mut ArrayVec<u8, 512>)
-    requires { length out.old.items + 20 ≤ 512 }
-    ensures digits { out.new.items ≡ out.old.items ++ decimal number }
-    ensures short { length out.new.items ≤ length out.old.items + 20 }
-{
-    let mut buffer = itoa::Buffer::new();
-    put_text(buffer.format(number).as_bytes(), out);
 }

@@ -1,12 +1,8 @@
--- The parts of a report: how it begins and ends, and the log of its C lines.
-use Rattle.std.specs.Prelude.{ℕ, Option, Some, None, List, [], ◌∷◌, ◌++◌, codes}
+-- Parts of a report: how it ends where a line is refused, and the log of its C lines.
+use Rattle.std.specs.Prelude.{ℕ, Option, Some, None, List, [], ◌∷◌}
 use Rattle.speed_bin.specs.Log.{Issued}
 use Rattle.ddr_text.specs.declared.lines.ReportLine.{ReportLine}
 use Rattle.ddr_text.specs.declared.lines.ReportLine.TheVariants.{Issued as IssuedLine, Value, Flip, Stat, End, Refused}
-
--- the header text and the separator, as they stand in the job
-abbrev pub opening : List ℕ → List ℕ
-opening text = text
 
 -- where a line was refused, its number and the reason
 pub record Refusal : Type 0 where

@@ -8,6 +8,7 @@ mod lines;
 mod opening;
 #[cfg(test)]
 mod opening_tests;
+mod pieces;
 mod report_line;
 #[cfg(test)]
 mod report_line_tests;
@@ -23,6 +24,7 @@ pub use fields::number_of;
 pub use header_text::HeaderText;
 pub use lines::{LineFault, ReportLine, StatName, TraceLine};
 pub use opening::{Apart, Opening, open_apart, open_job};
+pub use pieces::{put_bytes, put_number, put_spaced, put_text};
 pub use report_line::{read_report_line, report_lines};
 pub use spelling::write_report_line;
 pub use trace_line::{read_trace_line, trace_grammar};

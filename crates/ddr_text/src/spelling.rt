@@ -1,9 +1,9 @@
 //! Writing a line of a report, without memory.
-ghost use Rattle.std.specs.Prelude.{◌≡◌, ◌++◌, ◌<◌, ◌≤◌, ◌+◌, [], length, codes};
-ghost use Rattle.hex.specs.Hex.{encode_lower};
+ghost use Rattle.std.specs.Prelude.{◌≡◌, ◌++◌, ◌≤◌, ◌+◌, [], length, codes};
 ghost use Rattle.command_words.specs.Words.{words_of};
-ghost use Rattle.ddr_text.specs.Spelling.{spelled, spaced, spaced_word, spaced_words, stat_name, state_name};
+ghost use Rattle.ddr_text.specs.Spelling.{spelled, spaced_word, spaced_words, stat_name, state_name};
 
+use crate::pieces::{put_bytes, put_spaced, put_text};
 use crate::{ReportLine, StatName};
 use arrayvec::ArrayVec;
 use command_words::{Words, encode};
@@ -18,57 +18,39 @@ pub fn write_report_line(line: &ReportLine, out: &mut ArrayVec<u8, 512>)
     match line {
         ReportLine::Issued(clock, command) => {
             put_text(b"C", out);
-            put_number(*clock, out);
+            put_spaced(*clock, out);
             put_words(encode(command), out);
         }
         ReportLine::Value(number, line, bytes, state) => {
             put_text(b"D", out);
-            put_number(*number, out);
-            put_number(u64::from(line.get()), out);
+            put_spaced(*number, out);
+            put_spaced(u64::from(line.get()), out);
             put_bytes(bytes, out);
             put_state(*state, out);
         }
         ReportLine::Flip(clock, line, device, bit) => {
             put_text(b"F", out);
-            put_number(*clock, out);
-            put_number(u64::from(line.get()), out);
-            put_number(u64::from(*device), out);
-            put_number(u64::from(*bit), out);
+            put_spaced(*clock, out);
+            put_spaced(u64::from(line.get()), out);
+            put_spaced(u64::from(*device), out);
+            put_spaced(u64::from(*bit), out);
         }
         ReportLine::Stat(name, number) => {
             put_text(b"S ", out);
             put_text(name_of(*name), out);
-            put_number(*number, out);
+            put_spaced(*number, out);
         }
         ReportLine::End(clock) => {
             put_text(b"E", out);
-            put_number(*clock, out);
+            put_spaced(*clock, out);
         }
         ReportLine::Refused(line, reason) => {
             put_text(b"X", out);
-            put_number(*line, out);
-            put_number(u64::from(*reason), out);
+            put_spaced(*line, out);
+            put_spaced(u64::from(*reason), out);
         }
     }
     put_text(b"\n", out);
-}
-
-fn put_text(text: &[u8], out: &mut ArrayVec<u8, 512>)
-    requires { length out.old.items + length text.now ≤ 512 }
-    ensures { out.new.items ≡ out.old.items ++ text.now }
-{
-    let _ = out.try_extend_from_slice(text);
-}
-
-// Appends a space and a number in decimal digits.
-fn put_number(number: u64, out: &mut ArrayVec<u8, 512>)
-    requires { length out.old.items + 21 ≤ 512 }
-    ensures digits { out.new.items ≡ out.old.items ++ spaced number }
-    ensures short { length out.new.items ≤ length out.old.items + 21 }
-{
-    put_text(b" ", out);
-    let mut buffer = itoa::Buffer::new();
-    put_text(buffer.format(number).as_bytes(), out);
 }
 
 // Appends the words of a command, each after a space.
@@ -91,18 +73,6 @@ fn put_word(word: u16, out: &mut ArrayVec<u8, 512>)
 {
     let mut digits = [0u8; 4];
     let _ = hex::encode_to_slice(word.to_be_bytes().as_slice(), &mut digits);
-    put_text(b" ", out);
-    put_text(&digits, out);
-}
-
-// Appends a space and 64 bytes in 128 hexadecimal digits.
-fn put_bytes(bytes: &[u8; 64], out: &mut ArrayVec<u8, 512>)
-    requires { length out.old.items + 129 ≤ 512 }
-    ensures digits { out.new.items ≡ out.old.items ++ (codes " " ++ encode_lower bytes.now) }
-    ensures long { length out.new.items ≡ length out.old.items + 129 }
-{
-    let mut digits = [0u8; 128];
-    let _ = hex::encode_to_slice(bytes.as_slice(), &mut digits);
     put_text(b" ", out);
     put_text(&digits, out);
 }

@@ -1,12 +1,11 @@
 //! What an audit finds, and the line that it writes.
-ghost use Rattle.std.specs.Prelude.{◌≡◌, ◌++◌, ◌<◌, ◌≤◌, ◌+◌, [], codes, length};
-ghost use Rattle.ddr_text.specs.Spelling.{spaced};
+ghost use Rattle.std.specs.Prelude.{◌≡◌, []};
 ghost use Rattle.log_auditor.specs.Findings.{finding_text, is_fine, status_of};
 
 use crate::Rule;
 use arrayvec::ArrayVec;
 use ddr_io::Status;
-use ddr_text::{ReportLine, write_report_line};
+use ddr_text::{ReportLine, put_spaced, put_text, write_report_line};
 
 /// What is found in a report. Lines are counted from 1 behind its opening; 0 is the header.
 #[derive(Clone, Copy, Debug, PartialEq, Eq)]
@@ -51,8 +50,8 @@ impl Finding {
             Finding::Fine => put_text(b"A ok\n", out),
             Finding::Broken(line, rule) => {
                 put_text(b"A broken", out);
-                put_number(line, out);
-                put_number(u64::from(rule.0), out);
+                put_spaced(line, out);
+                put_spaced(u64::from(rule.0), out);
                 put_text(b"\n", out);
             }
             Finding::Refused(line, reason) => write_report_line(
@@ -61,22 +60,4 @@ impl Finding {
             ),
         }
     }
-}
-
-fn put_text(text: &[u8], out: &mut ArrayVec<u8, 512>)
-    requires { length out.old.items + length text.now ≤ 512 }
-    ensures { out.new.items ≡ out.old.items ++ text.now }
-{
-    let _ = out.try_extend_from_slice(text);
-}
-
-// Appends a space and a number in decimal digits.
-fn put_number(number: u64, out: &mut ArrayVec<u8, 512>)
-    requires { length out.old.items + 21 ≤ 512 }
-    ensures digits { out.new.items ≡ out.old.items ++ spaced number }
-    ensures short { length out.new.items ≤ length out.old.items + 21 }
-{
-    put_text(b" ", out);
-    let mut buffer = itoa::Buffer::new();
-    put_text(buffer.format(number).as_bytes(), out);
 }

@@ -11,7 +11,6 @@ use Rattle.speed_bin.specs.declared.header.Header.{Header}
 use Rattle.ddr_text.specs.Spelling.{spelled}
 use Rattle.ddr_text.specs.declared.lines.TraceLine.{TraceLine}
 use Rattle.reports.specs.Report.{report}
-use Rattle.ddr_text.specs.ReportParts.{opening}
 use Rattle.reports.specs.Whole.{whole}
 use Rattle.trace_replay.specs.Ending.{end_lines}
 use Rattle.trace_replay.specs.Replay.{Starts, Reports, refusal_of, IsServed, EndAnswers, Answers, RunAnswers}
@@ -21,11 +20,11 @@ use Rattle.trace_replay.proofs.Closing.{whole-is}
 use Rattle.trace_replay.proofs.Pieces.{prefix-behind}
 
 whole-bytes : (h : Header) (text : List ℕ) (trace : List TraceLine) (refused : Option ℕ) (start left before now : Option (List ℕ)) (ending : Ending) (s : IsServed h text trace refused start left before now ending)
-    → (opening text ++ flat_map spelled (report h trace s.run)) ++ flat_map spelled (end_lines ending) ≡ opening text ++ flat_map spelled (whole h trace s.run ending.clock (refusal_of trace refused))
+    → (text ++ flat_map spelled (report h trace s.run)) ++ flat_map spelled (end_lines ending) ≡ text ++ flat_map spelled (whole h trace s.run ending.clock (refusal_of trace refused))
 whole-bytes h text trace refused start left before now ending s =
-    append_assoc (opening text) (flat_map spelled (report h trace s.run)) (flat_map spelled (end_lines ending))
-    ∙ ap (λ l. opening text ++ l) (sym (flat_map-append spelled (report h trace s.run) (end_lines ending)))
-    ∙ ap (λ l. opening text ++ flat_map spelled l) (whole-is h trace s.run ending.clock (refusal_of trace refused) ending s.ends)
+    append_assoc text (flat_map spelled (report h trace s.run)) (flat_map spelled (end_lines ending))
+    ∙ ap (λ l. text ++ l) (sym (flat_map-append spelled (report h trace s.run) (end_lines ending)))
+    ∙ ap (λ l. text ++ flat_map spelled l) (whole-is h trace s.run ending.clock (refusal_of trace refused) ending s.ends)
 
 reports : (h : Header) (text : List ℕ) (trace : List TraceLine) (refused : Option ℕ) (start left before now after : Option (List ℕ)) (ending : Ending) → IsServed h text trace refused start left before now ending
     → Appends now after (flat_map spelled (end_lines ending)) → Reports h text trace refused before after
@@ -35,15 +34,15 @@ reports h text trace refused start left before now after ending s last = record 
   is_run = s.is_run;
   promises = s.promises;
   wrote = subst (Appends before after) (whole-bytes h text trace refused start left before now ending s)
-      (Appends-trans before now after (opening text ++ flat_map spelled (report h trace s.run)) (flat_map spelled (end_lines ending)) s.wrote last);
+      (Appends-trans before now after (text ++ flat_map spelled (report h trace s.run)) (flat_map spelled (end_lines ending)) s.wrote last);
 }
 
 starts : (h : Header) (text : List ℕ) (trace : List TraceLine) (refused : Option ℕ) (start left before now after : Option (List ℕ)) (ending : Ending) → IsServed h text trace refused start left before now ending
     → AppendsPrefix now after (flat_map spelled (end_lines ending)) → Starts h text trace refused before after
 starts h text trace refused start left before now after ending s cut =
-    let whole_cut : AppendsPrefix before after (opening text ++ flat_map spelled (whole h trace s.run ending.clock (refusal_of trace refused)))
+    let whole_cut : AppendsPrefix before after (text ++ flat_map spelled (whole h trace s.run ending.clock (refusal_of trace refused)))
     = subst (AppendsPrefix before after) (whole-bytes h text trace refused start left before now ending s)
-    (prefix-behind before now after (opening text ++ flat_map spelled (report h trace s.run)) (flat_map spelled (end_lines ending)) s.wrote cut) in
+    (prefix-behind before now after (text ++ flat_map spelled (report h trace s.run)) (flat_map spelled (end_lines ending)) s.wrote cut) in
     (_, inr (_, whole_cut.0, (s.run, ending.clock, s.is_run, refl), refl), whole_cut.2)
 
 none-of : (refused : Option ℕ) → is_some refused ≡ false → refused ≡ None

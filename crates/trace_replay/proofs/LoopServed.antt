@@ -18,7 +18,7 @@ use Rattle.reports.specs.Stats.{stats}
 use Rattle.reports.specs.Sound.{Sound, IsRun}
 use Rattle.reports.specs.Headline.{Headline}
 use Rattle.reports.specs.Underway.{Ended}
-use Rattle.ddr_text.specs.ReportParts.{refusal_lines, opening}
+use Rattle.ddr_text.specs.ReportParts.{refusal_lines}
 use Rattle.trace_replay.specs.Coupled.{from_of}
 use Rattle.trace_replay.specs.Ending.{end_lines, reason_in}
 use Rattle.trace_replay.specs.Job.{trace_of, IsTrace, IsUsedUp}
@@ -51,7 +51,7 @@ record IsStarted (h : Header) (text : List ℕ) (start before after : Option (Li
   traced : IsTrace (shape_of h) trace
   sound : Sound h trace run
   read : IsFront (shape_of h) trace start
-  wrote : AppendsPrefix before after (opening text ++ flat_map spelled (report h trace run))
+  wrote : AppendsPrefix before after (text ++ flat_map spelled (report h trace run))
 
 -- the first bytes of a report of the whole trace
 abbrev StartsWhole : Header → List ℕ → Option (List ℕ) → Option (List ℕ) → Option (List ℕ) → Type 0
@@ -64,8 +64,8 @@ started-whole laws h text (Some bytes) before after s =
     let is : (trace_of (shape_of h) bytes).lines ≡ s.trace ++ s.read.0 = s.read.1 in
     let same : report h (trace_of (shape_of h) bytes).lines s.run ≡ report h s.trace s.run = ap (λ t. report h t s.run) is ∙ laws.report_is h s.trace s.read.0 s.run s.sound in
     let sound : Sound h (trace_of (shape_of h) bytes).lines s.run = subst (λ t. Sound h t s.run) (sym is) (laws.sound h s.trace s.read.0 s.run s.sound) in
-    let wrote : AppendsPrefix before after (opening text ++ flat_map spelled (report h (trace_of (shape_of h) bytes).lines s.run))
-    = subst (λ l. AppendsPrefix before after (opening text ++ flat_map spelled l)) (sym same) s.wrote in (
+    let wrote : AppendsPrefix before after (text ++ flat_map spelled (report h (trace_of (shape_of h) bytes).lines s.run))
+    = subst (λ l. AppendsPrefix before after (text ++ flat_map spelled l)) (sym same) s.wrote in (
       (trace_of (shape_of h) bytes).lines,
       (trace_of (shape_of h) bytes).refused,
       refl,
@@ -77,24 +77,24 @@ front-none : (g : Shape) (start : Option (List ℕ)) → IsFront g [] start
 front-none g None = tt
 front-none g (Some bytes) = ((trace_of g bytes).lines, refl)
 
-opening-started : (h : Header) (text : List ℕ) (start before after : Option (List ℕ)) → AppendsPrefix before after (opening text) → IsStarted h text start before after
+opening-started : (h : Header) (text : List ℕ) (start before after : Option (List ℕ)) → AppendsPrefix before after text → IsStarted h text start before after
 opening-started h text start before after cut = record {
   trace = [];
   run = [];
   traced = no-lines (shape_of h);
   sound = tt;
   read = front-none (shape_of h) start;
-  wrote = prefix-longer before after (opening text) [] cut;
+  wrote = prefix-longer before after text [] cut;
 }
 
-begun-started : (h : Header) (text : List ℕ) (start before now after : Option (List ℕ)) → Appends before now (opening text) → IsBegun h start now after → IsStarted h text start before after
+begun-started : (h : Header) (text : List ℕ) (start before now after : Option (List ℕ)) → Appends before now text → IsBegun h start now after → IsStarted h text start before after
 begun-started h text start before now after first k = record {
   trace = k.trace;
   run = k.run;
   traced = k.traced;
   sound = k.sound;
   read = k.read;
-  wrote = prefix-behind before now after (opening text) (flat_map spelled (report h k.trace k.run)) first k.wrote;
+  wrote = prefix-behind before now after text (flat_map spelled (report h k.trace k.run)) first k.wrote;
 }
 
 starting : ReportLaws → (stop : Stop) (h : Header) (text : List ℕ) (start left before after : Option (List ℕ)) (a b : ℕ) → WriteCause a b stop → IsStarted h text start before after → TraceAnswers (status_of stop) h text start left before after
@@ -114,24 +114,24 @@ nothing before bytes = (0, omega arith, Appends-nil before)
 pub stops-at-once : ReportLaws → (stop : Stop) (h : Header) (text : List ℕ) (start left before : Option (List ℕ)) → stop ≡ OutOfMemory → TraceAnswers (status_of stop) h text start left before before
 stops-at-once laws stop h text start left before is =
     subst (λ (s : Stop). TraceAnswers (status_of s) h text start left before before) (sym is)
-    (starting laws OutOfMemory h text start left before before 0 0 tt (opening-started h text start before before (nothing before (opening text))))
+    (starting laws OutOfMemory h text start left before before 0 0 tt (opening-started h text start before before (nothing before text)))
 
-pub stops-opening : ReportLaws → (stop : Stop) (h : Header) (text : List ℕ) (start left before after : Option (List ℕ)) (a b : ℕ) → WriteCause a b stop → AppendsPrefix before after (opening text) → TraceAnswers (status_of stop) h text start left before after
+pub stops-opening : ReportLaws → (stop : Stop) (h : Header) (text : List ℕ) (start left before after : Option (List ℕ)) (a b : ℕ) → WriteCause a b stop → AppendsPrefix before after text → TraceAnswers (status_of stop) h text start left before after
 stops-opening laws stop h text start left before after a b cause cut = starting laws stop h text start left before after a b cause (opening-started h text start before after cut)
 
-left-off : (h : Header) (text : List ℕ) (start left before now after : Option (List ℕ)) → Appends before now (opening text) → IsLeftOff h start left now after → TraceAnswers (status_of ReadFault) h text start left before after
+left-off : (h : Header) (text : List ℕ) (start left before now after : Option (List ℕ)) → Appends before now text → IsLeftOff h start left now after → TraceAnswers (status_of ReadFault) h text start left before after
 left-off h text start left before now after first k = inr (
   k.trace,
   k.read,
   k.traced,
   (
-    opening text ++ flat_map spelled (report h k.trace k.run),
+    text ++ flat_map spelled (report h k.trace k.run),
     (k.run, k.sound, k.few, refl),
-    Appends-trans before now after (opening text) (flat_map spelled (report h k.trace k.run)) first k.wrote,
+    Appends-trans before now after text (flat_map spelled (report h k.trace k.run)) first k.wrote,
   ),
 )
 
-pub stops-serving : ReportLaws → (stop : Stop) (h : Header) (text : List ℕ) (start left before now after : Option (List ℕ)) → Appends before now (opening text) → StopsServing stop h start left now after → TraceAnswers (status_of stop) h text start left before after
+pub stops-serving : ReportLaws → (stop : Stop) (h : Header) (text : List ℕ) (start left before now after : Option (List ℕ)) → Appends before now text → StopsServing stop h start left now after → TraceAnswers (status_of stop) h text start left before after
 stops-serving laws ReadFault h text start left before now after first k = left-off h text start left before now after first k
 stops-serving laws WriteFault h text start left before now after first k = inl (started-whole laws h text start before after (begun-started h text start before now after first k))
 stops-serving laws OutOfMemory h text start left before now after first k = inl (started-whole laws h text start before after (begun-started h text start before now after first k))
@@ -160,7 +160,7 @@ used-up g trace End None held left e k none = tt
 used-up g trace End (Some bytes) held left e k none = none-left held left k.1
 used-up g trace (Refused reason) start held left e k none = cc
 
-pub served : ReportLaws → (h : Header) (text : List ℕ) (p : Progress) (start before now after : Option (List ℕ)) (held : List ℕ) (left : Option (List ℕ)) (ending : Ending) → Appends before now (opening text) → IsOver h p start (next_bytes held left) now after
+pub served : ReportLaws → (h : Header) (text : List ℕ) (p : Progress) (start before now after : Option (List ℕ)) (held : List ℕ) (left : Option (List ℕ)) (ending : Ending) → Appends before now text → IsOver h p start (next_bytes held left) now after
     → ending.clock ≡ from_of p.coupled → is_some ending.refusal ≡ is_some (reason_in p.ahead)
     → ((k : Header) (trace : List TraceLine) (run : Run) → Holds k p trace run → end_lines ending ≡ stats k trace run ++ EndLine (from_of p.coupled) ∷ refusal_lines (refusal_of trace (reason_in p.ahead)))
     → TraceServed h text start left before after ending
@@ -177,7 +177,7 @@ served laws h text p start before now after held left ending first o clock shown
         used_up = used-up (shape_of h) u.trace p.ahead start held left o.last u.read;
         is_run = finished;
         promises = laws.promises h u.trace u.run ending.clock f.accepted f.traced.inside finished;
-        wrote = Appends-trans before now after (opening text) (flat_map spelled (report h u.trace u.run)) first u.wrote;
+        wrote = Appends-trans before now after text (flat_map spelled (report h u.trace u.run)) first u.wrote;
         ends = lines h u.trace u.run u.holds ∙ ap (λ n. stats h u.trace u.run ++ EndLine n ∷ refusal_lines (refusal_of u.trace (reason_in p.ahead))) (sym clock);
         shown = shown;
       },

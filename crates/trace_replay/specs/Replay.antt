@@ -18,7 +18,7 @@ use Rattle.reports.specs.Report.{report}
 use Rattle.reports.specs.Stats.{stats}
 use Rattle.reports.specs.Sound.{IsRun}
 use Rattle.reports.specs.Headline.{Headline}
-use Rattle.ddr_text.specs.ReportParts.{Refusal, refusal_lines, opening}
+use Rattle.ddr_text.specs.ReportParts.{Refusal, refusal_lines}
 use Rattle.reports.specs.Whole.{whole, IsStartOf, IsUnfinishedOf}
 use Rattle.speed_bin.specs.declared.header.Header.{Header}
 use Rattle.trace_replay.specs.Ending.{end_lines}
@@ -45,7 +45,7 @@ pub record Reports (h : Header) (text : List ℕ) (trace : List TraceLine) (refu
   pub clock : ℕ
   pub is_run : IsRun h trace run clock
   pub promises : Headline h trace run clock
-  pub wrote : Appends before after (opening text ++ flat_map spelled (whole h trace run clock (refusal_of trace refused)))
+  pub wrote : Appends before after (text ++ flat_map spelled (whole h trace run clock (refusal_of trace refused)))
 
 -- a started report was written
 abbrev pub Starts : Header → List ℕ → List TraceLine → Option ℕ → Option (List ℕ) → Option (List ℕ) → Type 0
@@ -135,7 +135,7 @@ pub record IsServed (h : Header) (text : List ℕ) (trace : List TraceLine) (ref
   pub used_up : refused ≡ None → IsUsedUp start left
   pub is_run : IsRun h trace run ending.clock
   pub promises : Headline h trace run ending.clock
-  pub wrote : Appends before written (opening text ++ flat_map spelled (report h trace run))
+  pub wrote : Appends before written (text ++ flat_map spelled (report h trace run))
   pub ends : end_lines ending ≡ stats h trace run ++ EndLine ending.clock ∷ refusal_lines (refusal_of trace refused)
   pub shown : is_some ending.refusal ≡ is_some refused
 
