@@ -6,6 +6,8 @@ mod at_end;
 #[cfg(test)]
 mod audit_tests;
 mod fault;
+#[cfg(test)]
+mod fault_tests;
 mod form;
 pub mod laws;
 mod made_run;
