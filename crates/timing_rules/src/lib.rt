@@ -1,6 +1,7 @@
 //! How soon a command may follow others: the gap between two commands, and the gate behind all that were issued.
 #![tactic(auto)]
 
+mod clocks;
 mod gaps;
 mod gate;
 mod kept;

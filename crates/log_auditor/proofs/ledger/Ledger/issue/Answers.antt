@@ -1,7 +1,7 @@
 use Rattle.log_auditor.proofs.ledger.Ledger.issue.Goals as goal
 
 pub issue-requires-clause-follows : goal.issue-requires-clause-follows
-issue-requires-clause-follows c = let m = c.requires.may in (m.0.timing, m.1, (m.2.gate, m.3.spaced))
+issue-requires-clause-follows c = let m = c.requires.may in ∣ (m.0.timing, m.1, m.2.gate, m.3.spaced) ∣₁
 
 pub issue-requires-2 : goal.issue-requires-2
 issue-requires-2 c = let m = c.requires.may in ∣ (m.1, m.2.banks, m.3.fits) ∣₁

@@ -1,5 +1,5 @@
 use Rattle.timing_rules.proofs.Earliest.{least_gaps}
-use Rattle.timing_rules.proofs.gate.Gate.behind_gaps.Goals as goal
+use Rattle.timing_rules.proofs.clocks.Clocks.behind_gaps.Goals as goal
 
 pub returns : goal.returns
 returns c = λ t log s clock.

@@ -2,7 +2,7 @@ use Rattle.std.proofs.Common.{ℕ, ◌≡◌, ◌∙◌, ap, slice_get}
 use Rattle.circular_buffer.specs.Buffer.{Buffer}
 use Rattle.timing_rules.specs.Gate.{act_clocks}
 use Rattle.timing_rules.proofs.Window.{window_row, fourth_kept}
-use Rattle.timing_rules.proofs.gate.Gate.behind_window.Goals as goal
+use Rattle.timing_rules.proofs.clocks.Clocks.behind_window.Goals as goal
 
 pub returns : goal.returns
 returns c = λ t log s clock.

@@ -2,7 +2,7 @@ use Rattle.std.proofs.Common.{[], ◌∷◌}
 use Rattle.timing_rules.specs.Kept.{is_any}
 use Rattle.timing_rules.specs.Rows.{Row, is_wide}
 use Rattle.timing_rules.proofs.Last.{Stands, row_always, first_row, next_row}
-use Rattle.timing_rules.proofs.gate.Gate.behind_bus.Goals as goal
+use Rattle.timing_rules.proofs.clocks.Clocks.behind_bus.Goals as goal
 
 pub returns : goal.returns
 returns c = λ t log s clock.

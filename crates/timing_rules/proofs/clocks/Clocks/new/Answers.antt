@@ -1,9 +1,11 @@
 use Rattle.std.proofs.Common.{refl}
 use Rattle.command_words.specs.Kinds.{is_act, is_rd, is_wr, is_ref_same, is_rfm_same}
 use Rattle.timing_rules.specs.Kept.{closes_one, closes_address}
-use Rattle.timing_rules.proofs.gate.Gate.empty.Goals as goal
+use Rattle.timing_rules.specs.Gate.{StandsFor}
+use Rattle.timing_rules.proofs.clocks.Clocks.new.Goals as goal
 
 pub returns : goal.returns
+unfolding StandsFor
 returns c = record {
   timing = refl;
   timing_in_range = c.requires.timing;

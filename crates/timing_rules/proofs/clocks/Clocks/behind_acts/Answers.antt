@@ -6,7 +6,7 @@ use Rattle.timing_rules.specs.Kept.{touches}
 use Rattle.timing_rules.specs.Rows.{Row}
 use Rattle.timing_rules.proofs.Last.{Stands, row_kinds, row_there, first_row, next_row}
 use Rattle.timing_rules.proofs.Meet.{meet_touches}
-use Rattle.timing_rules.proofs.gate.Gate.behind_acts.Goals as goal
+use Rattle.timing_rules.proofs.clocks.Clocks.behind_acts.Goals as goal
 
 pub returns : goal.returns
 returns c = λ t log s clock.

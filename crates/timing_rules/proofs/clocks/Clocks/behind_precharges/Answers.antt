@@ -6,7 +6,7 @@ use Rattle.timing_rules.specs.Kept.{touches, closes_one, closes_address, closes_
 use Rattle.timing_rules.specs.Rows.{Row}
 use Rattle.timing_rules.proofs.Last.{Stands, row_there, first_row, next_row}
 use Rattle.timing_rules.proofs.Meet.{meet_touches, all_cover}
-use Rattle.timing_rules.proofs.gate.Gate.behind_precharges.Goals as goal
+use Rattle.timing_rules.proofs.clocks.Clocks.behind_precharges.Goals as goal
 
 pub returns : goal.returns
 returns c = λ t log s clock.
