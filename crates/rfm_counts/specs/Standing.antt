@@ -1,15 +1,19 @@
 -- What rolling counts say of a log.
-use Rattle.std.specs.Prelude.{◌≡◌, ℕ, ◌<◌, [], ◌∷◌, length, slice_index, IsTrue, ⊤}
+use Rattle.std.specs.Prelude.{◌≡◌, ℕ, ◌<◌, Bool, List, [], ◌∷◌, length, slice_index, IsTrue, ⊤}
 use Rattle.command_words.specs.declared.command.Command.{Command}
 use Rattle.speed_bin.specs.declared.header.Header.{Header}
 use Rattle.speed_bin.specs.Log.{Log, raa}
-use Rattle.speed_bin.specs.Rules.{rule_9}
+use Rattle.speed_bin.specs.Rules.{rule_9, rule_10}
 use Rattle.rfm_counts.specs.Held.{Held}
 
 -- rule 9 holds at each place of the log
 abbrev pub AllAllowed : Header → Log → Type 0
 AllAllowed h [] = ⊤
 AllAllowed h (place ∷ log) = AllAllowed h log × IsTrue (rule_9 h place.command log)
+
+-- whether each of the rules 9 and 10 holds
+abbrev pub count_rules : Header → Command → Log → List Bool
+count_rules h command log = rule_9 h command log ∷ rule_10 h command log ∷ []
 
 -- the thresholds are the header's, and at each of the 32 numbers of banks stands the count of the log
 pub record Keeps (it : Held) (h : Header) (log : Log) : Type 0 where

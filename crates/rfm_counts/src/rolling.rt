@@ -3,9 +3,9 @@ ghost use Rattle.std.specs.Prelude.{◌≡◌, ℕ, ◌+◌, ◌<◌, ◌∷◌,
 ghost use Rattle.command_words.specs.Command.{bank_number};
 ghost use Rattle.speed_bin.specs.declared.header.Header.{Header as AnyHeader};
 ghost use Rattle.speed_bin.specs.Log.{Log, Issued, raa};
-ghost use Rattle.speed_bin.specs.Rules.{rule_9, is_wanted};
+ghost use Rattle.speed_bin.specs.Rules.{rule_9, is_wanted, first_failing};
 ghost use Rattle.rfm_counts.specs.Held.{Held, HasSameLimits, lowered, is_high_at};
-ghost use Rattle.rfm_counts.specs.Standing.{StandsFor, MayIssue};
+ghost use Rattle.rfm_counts.specs.Standing.{StandsFor, MayIssue, count_rules};
 
 use command_words::{Bank, BankAddr, Command};
 use speed_bin::Settings;
@@ -76,6 +76,35 @@ impl Raa {
         None
     }
 
+    /// The least of the rules 9 and 10 that fails where the command is issued: 9 where the bank of an ACT is at RAAMMT or
+    /// more, 10 where no bank of an RFMsb is at RAAIMT or more.
+    pub fn broken(&self, command: &Command) -> Option<u8>
+        ensures { (h : AnyHeader) (log : Log) → StandsFor self.now h log → result ≡ first_failing 9 (count_rules h command.now log) }
+    {
+        match command {
+            Command::Act(bank, _) => failing(self.may_activate(*bank), 9),
+            Command::RfmSb(address) => failing(self.is_wanted_at(*address), 10),
+            Command::Rd(..) => None,
+            Command::Wr(..) => None,
+            Command::PrePb(_) => None,
+            Command::PreSb(_) => None,
+            Command::PreAb => None,
+            Command::RefAb => None,
+            Command::RefSb(_) => None,
+            Command::RfmAb => None,
+            Command::Mrw(_) => None,
+            Command::Ecs => None,
+            Command::Nop => None,
+        }
+    }
+
+    // Whether an RFMsb with this address is wanted.
+    fn is_wanted_at(&self, address: BankAddr) -> bool
+        ensures { (h : AnyHeader) (log : Log) → StandsFor self.now h log → result ≡ is_wanted h (Command.RfmSb address) log }
+    {
+        self.is_high_at(address.get())
+    }
+
     // Whether some bank with this address is at RAAIMT or more.
     fn is_high_at(&self, address: u8) -> bool
         requires { address < 4 }
@@ -136,4 +165,11 @@ impl Raa {
             | Command::Nop => {}
         }
     }
+}
+
+// The number of a rule that does not hold.
+fn failing(holds: bool, rule: u8) -> Option<u8>
+    ensures { result ≡ first_failing rule (holds ∷ []) }
+{
+    if holds { None } else { Some(rule) }
 }
