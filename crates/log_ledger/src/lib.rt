@@ -1,0 +1,7 @@
+//! One ledger of a log: its spacing, its open banks, its refreshes and its rolling counts.
+#![tactic(auto)]
+
+mod ledger;
+mod parts;
+
+pub use ledger::Ledger;
