@@ -30,8 +30,7 @@ use Rattle.device_core.specs.Standing.{Keeps, StandsFor, StandsForSome, IsGiven,
 use Rattle.device_core.specs.declared.activations.Activations.{Activations}
 use Rattle.device_core.specs.declared.device.Device.{Device}
 use Rattle.device_core.specs.declared.store.Store.{Store}
-use Rattle.device_core.proofs.Rules.{passes, short_log, open_inside, open_group}
-use Rattle.device_core.proofs.RowLemmas.{low_bank}
+use Rattle.device_core.proofs.Rules.{passes, short_log, open_inside, open_group, low_bank}
 
 -- ---- Equal numbers and shapes by some list
 

@@ -2,8 +2,8 @@
 #![tactic(auto)]
 
 mod activations;
-mod bank_rows;
 mod device;
+pub mod laws;
 mod reply;
 mod store;
 #[cfg(test)]

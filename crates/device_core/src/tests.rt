@@ -1,5 +1,5 @@
 //! Logs from the outside, stepped against their numbers.
-ghost use Rattle.std.specs.Prelude.{ℕ, ◌≡◌, [], ◌∷◌, true, Ok, IfOk, List};
+ghost use Rattle.std.specs.Prelude.{◌≡◌, [], ◌∷◌, true, Ok, IfOk, List};
 ghost use Rattle.command_words.specs.Command.{IsInRange};
 ghost use Rattle.command_words.specs.Decode.{decode_of};
 ghost use Rattle.command_words.specs.Words.{Spells};
@@ -10,7 +10,7 @@ ghost use Rattle.device_core.specs.Standing.{StandsFor, IsBit, lent};
 ghost use Rattle.device_core.specs.Steps.{Step, Flips};
 ghost use Rattle.device_core.specs.Scripts.{header_of, played, is_legal, bytes_for, first_place};
 
-use crate::Device;
+use crate::{Device, laws};
 use command_words::{Bank, BankAddr, Column, Command, Group, Place, Row, Words, decode};
 use ddr_io::OutOfMemory;
 use error_scrub::{LineRead, ScrubCounts};
@@ -395,4 +395,10 @@ fn two_activations_a_cycle_and_four_groups(rt: HostRuntime) -> Result<(), Fail> 
     play(&mut device, &bytes, &TWO_PER_CYCLE)?;
     assert_eq!(rt; device.peak(), 4);
     Ok(())
+}
+
+#[test]
+fn laws_return() {
+    laws::open_rows_are_inside();
+    laws::peak_is_bounded();
 }

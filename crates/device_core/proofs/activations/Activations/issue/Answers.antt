@@ -1,24 +1,21 @@
-use Rattle.std.proofs.Common.{ℕ, List, Option, sym, ap, subst}
-use Rattle.bank_state.specs.Standing.{StandsFor as BanksFor, MayIssue as MayFit}
+use Rattle.std.proofs.Math.Logic.{∥∥₁_map}
 use Rattle.device_core.specs.Rows.{StandsFor}
-use Rattle.device_core.specs.declared.activations.Activations.{Activations}
-use Rattle.device_core.proofs.RowLemmas.{may_fit, fits}
+use Rattle.device_core.proofs.Rules.{counted, fits}
 use Rattle.device_core.proofs.activations.Activations.issue.Goals as goal
 
 pub issue-requires : goal.issue-requires
-issue-requires c = subst (λ (rows : List (Option ℕ)). MayFit rows c.args.command.now) (sym (ap (λ (it : Activations). it.rows) c.track.ensures.rest)) (may_fit c.args.self.now c.args.clock c.args.command.now c.requires)
+unfolding StandsFor
+issue-requires c = ∥∥₁_map c.requires (λ p. (p.0, p.1, p.2.activity, p.2.rows, counted p.0 c.args.clock c.args.command.now p.1 p.3))
+
+pub issue-requires-2 : goal.issue-requires-2
+unfolding StandsFor
+issue-requires-2 c = ∥∥₁_map c.requires (λ p. (p.1, p.2.rows, fits p.0 c.args.clock c.args.command.now p.1 p.3))
 
 pub returns : goal.returns
 unfolding StandsFor
-returns c = λ h log stands legal told.
-    let tracked = c.track.ensures.tracks h log stands legal told in
-    let rows = subst (λ (rows : List (Option ℕ)). BanksFor rows log) (sym (ap (λ (it : Activations). it.rows) c.track.ensures.rest)) stands.rows in
-    record {
-      accepted = stands.accepted;
-      legal = (stands.legal, legal);
-      rows = c.issue.ensures c.args.clock log rows (fits h c.args.clock c.args.command.now log legal);
-      banks = c.track.ensures.banks;
-      counts = tracked.counts;
-      alert = tracked.alert;
-      peak = c.peak_after-peak.ensures h log stands legal;
-    }
+returns c = λ h log stands legal told. record {
+  accepted = stands.accepted;
+  legal = (stands.legal, legal);
+  rows = c.issue-2.ensures c.args.clock log stands.rows (fits h c.args.clock c.args.command.now log legal);
+  activity = c.issue.ensures h log stands.activity stands.rows (counted h c.args.clock c.args.command.now log legal) told;
+}

@@ -1,9 +1,0 @@
-use Rattle.std.proofs.Common.{◌≡◌, ◌<◌, ℕ, [], length}
-use Rattle.device_core.specs.Rows.{BankFor, bank_at}
-use Rattle.device_core.proofs.activations.Activations.new.Given as goal
-
-abbrev pub invariant-loop : goal.invariant-loop
-invariant-loop l = record {
-  long : length l.banks.items ≡ l.counter;
-  fresh : (b : ℕ) → b < l.counter → BankFor (bank_at l.banks.items b) l.header b [];
-}
