@@ -1,19 +1,17 @@
 -- The least rule that fails, by what decides the rules; and what a log without a breach keeps.
-use Rattle.std.proofs.Common.{◌*◌, lt-ltb, ◌≡◌, ◌∙◌, ℕ, suc, ◌<◌, ◌≤◌, ◌^◌, Bool, true, false, cond, nat_le, nat_lt, Option, Some, None, List, [], ◌∷◌, length, min, IsTrue, refl, sym, ap, arith, ltb-true}
+use Rattle.std.proofs.Common.{◌*◌, lt-ltb, ◌≡◌, ◌∙◌, ℕ, suc, Bool, true, false, nat_lt, Option, Some, None, List, [], ◌∷◌, length, refl, sym, ap, arith, ltb-true}
 use Rattle.speed_bin.proofs.Tests.{both, joined}
 use Rattle.command_words.specs.declared.place.Bank.{Bank}
 use Rattle.command_words.specs.Command.{bank_number, IsBank, IsInRange}
 use Rattle.std.specs.Option.{option_or}
-use Rattle.bank_state.specs.Standing.{Fits}
 use Rattle.command_words.specs.declared.command.Command.{Command}
 use Rattle.command_words.specs.declared.command.Command.TheVariants.{Act, Rd, Wr, PrePb, PreSb, PreAb, RefAb, RefSb, RfmAb, RfmSb, Mrw, Ecs, Nop}
 use Rattle.ddr_text.specs.ReportGrammar.{has_place}
-use Rattle.refresh_plan.specs.Standing.{IsAllowed, refresh_rules}
+use Rattle.refresh_plan.specs.Standing.{refresh_rules}
 use Rattle.speed_bin.specs.Log.{Log, Issued}
-use Rattle.speed_bin.specs.Marks.{is_bank, Keeps, RowsInRange, is_in_range}
-use Rattle.speed_bin.specs.Rules.{MayFollow, first_failing, rule_1, rule_2, rule_3, rule_4, rule_5, rule_6, rule_7, rule_8, rule_9, rule_10, rule_11, rule_12, rule_13, rule_14, rules_at, rules_at_end, verdict, verdict_after, verdict_at_end}
+use Rattle.speed_bin.specs.Marks.{is_bank, is_in_range}
+use Rattle.speed_bin.specs.Rules.{first_failing, rule_1, rule_2, rule_3, rule_4, rule_5, rule_6, rule_7, rule_8, rule_9, rule_10, rule_11, rule_12, rule_13, rule_14, rules_at_end, verdict, verdict_at_end}
 use Rattle.speed_bin.specs.declared.header.Header.{Header}
-use Rattle.speed_bin.proofs.Audits.{fine_keeps}
 use Rattle.timing_rules.specs.Spaced.{spacing_rules}
 use Rattle.speed_bin.specs.Header.{shape_of}
 use Rattle.log_auditor.specs.Groups.{alert_rules, bank_rules, count_rules, first_broken, first_broken_at_end}
@@ -155,11 +153,3 @@ in_range h (RfmSb address) inside e = refl
 in_range h (Mrw write) inside e = refl
 in_range h Ecs inside e = refl
 in_range h Nop inside e = refl
-
--- a log has no more places than its next clock says
-pub few_places : (h : Header) (clock : ℕ) (log : Log) → Keeps h log → rule_1 clock log ≡ true → length log ≤ clock
-few_places h clock [] kept e = omega arith
-few_places h clock (place ∷ log) kept e =
-    let before = few_places h place.clock log kept.0 kept.1.first in
-    let later = ltb-true place.clock clock e in
-    omega arith

@@ -1,7 +1,5 @@
 pub mod AnyBelow
 pub mod Auditions
-pub mod Banks
-pub mod Counting
 pub mod Endings
 pub mod Judging
 pub mod Lines

@@ -1,25 +1,23 @@
 -- What an auditor stands for after one more line.
-use Rattle.std.proofs.Common.{◌≡◌, ◌∙◌, ℕ, suc, ◌<◌, ◌≤◌, ◌^◌, Bool, true, false, Option, Some, None, ◌∷◌, length, refl, sym, ap, arith, subst}
+use Rattle.std.proofs.Common.{◌≡◌, ◌∙◌, ℕ, Bool, true, false, Option, Some, None, ◌∷◌, refl, sym, ap, subst}
 use Rattle.command_words.specs.declared.command.Command.{Command}
 use Rattle.ddr_text.specs.AcceptedReport.{IsReportLine}
-use Rattle.ddr_text.specs.ReportGrammar.{has_place}
 use Rattle.ddr_text.specs.declared.lines.ReportLine.{ReportLine}
 use Rattle.ddr_text.specs.declared.lines.ReportLine.TheVariants.{Issued, Value, Flip, Stat, End, Refused}
-use Rattle.speed_bin.specs.Header.{IsAccepted, shape_of}
+use Rattle.speed_bin.specs.Header.{shape_of}
 use Rattle.speed_bin.specs.Log.{Log}
-use Rattle.speed_bin.specs.Marks.{RowsInRange, Keeps as KeepsRules, is_in_range}
-use Rattle.speed_bin.specs.Rules.{rule_1, verdict, verdict_after, verdict_at_end}
+use Rattle.speed_bin.specs.Marks.{RowsInRange, Keeps as KeepsRules}
+use Rattle.speed_bin.specs.Rules.{verdict, verdict_at_end}
 use Rattle.speed_bin.specs.declared.header.Header.{Header}
 use Rattle.speed_bin.proofs.Audits.{fine_keeps}
-use Rattle.log_auditor.specs.Activations.{MayCount}
+use Rattle.row_activity.specs.Counted.{MayCount}
 use Rattle.log_auditor.specs.Auditing.{Keeps, Parts, StandsFor, Taken, is_open, state_of, told, told_state}
 use Rattle.log_auditor.specs.Groups.{first_broken, first_broken_at_end}
 use Rattle.log_auditor.specs.declared.auditor.Auditor.{Auditor}
-use Rattle.log_auditor.specs.declared.auditor.State.{State}
-use Rattle.log_auditor.specs.declared.auditor.State.TheVariants.{Open, Broken, Ended}
+use Rattle.log_auditor.specs.declared.auditor.State.TheVariants.{Broken, Ended}
 use Rattle.log_auditor.specs.declared.verdict.Verdict.{Verdict}
-use Rattle.log_auditor.specs.declared.verdict.Verdict.TheVariants.{Fine, Breaks}
-use Rattle.log_auditor.proofs.Judging.{few_places, follows, in_range, now_broken, still_broken, still_ended, still_fine}
+use Rattle.log_auditor.specs.declared.verdict.Verdict.TheVariants.{Fine}
+use Rattle.log_auditor.proofs.Judging.{in_range, now_broken, still_broken, still_ended, still_fine}
 
 -- ---- States
 
@@ -58,12 +56,10 @@ pub may_count : (it : Auditor) (h : Header) (clock : ℕ) (command : Command) (l
 may_count it h clock command log keeps opened line none =
     let fine = fine_so_far it h log keeps opened in
     let kept = fine_keeps h (record { clock = clock; command = command } ∷ log) (rows_next h clock command log keeps.rows line) (still_fine h clock command log fine none) in
-    let few = few_places h clock log kept.0 kept.1.first in
-    let early = line.0 in
     record {
-      accepted = keeps.accepted;
-      kept = kept;
-      short = omega arith;
+      in_time = line.0;
+      in_range = line.1;
+      kept = kept.1;
     }
 
 -- it was broken before

@@ -1,5 +1,5 @@
 -- What an auditor says of the log of the lines that it took.
-use Rattle.std.specs.Prelude.{ℕ, ◌≡◌, Bool, true, false, [], ◌∷◌, length, min, Option, Some, None}
+use Rattle.std.specs.Prelude.{ℕ, ◌≡◌, Bool, true, false, ◌∷◌, length, min, Option, Some, None}
 use Rattle.command_words.specs.declared.command.Command.{Command}
 use Rattle.command_words.specs.declared.command.Command.TheVariants.{Mrw as MrwCommand}
 use Rattle.command_words.specs.declared.command.Mrw.{Mrw}
@@ -11,7 +11,7 @@ use Rattle.speed_bin.specs.Marks.{RowsInRange}
 use Rattle.speed_bin.specs.Registers.{register_writes}
 use Rattle.speed_bin.specs.Rules.{verdict, verdict_at_end}
 use Rattle.speed_bin.specs.declared.header.Header.{Header}
-use Rattle.log_auditor.specs.Activations.{ActivationsKeep}
+use Rattle.row_activity.specs.Standing.{StandsFor as ActivityFor}
 use Rattle.log_auditor.specs.Ledger.{LedgerKeeps}
 use Rattle.log_auditor.specs.declared.auditor.Auditor.{Auditor}
 use Rattle.log_auditor.specs.declared.auditor.State.{State}
@@ -50,11 +50,11 @@ write_of _ = None
 -- the parts are those of the log
 pub record Parts (it : Auditor) (h : Header) (log : Log) : Type 0 where
   pub timing : it.timing ≡ h.timing
-  pub raaimt : it.raaimt ≡ h.settings.raaimt
+  pub settings : it.settings ≡ h.settings
   pub writes : it.writes.items ≡ register_writes h.settings
   pub places : it.places ≡ min 8 (length log)
   pub ledger : LedgerKeeps it.ledger h log
-  pub activations : ActivationsKeep it.activations h log
+  pub activity : ActivityFor it.activity h log
 
 -- the state is the verdict on the log; and where no rule was broken, the parts are those of the log
 pub record Keeps (it : Auditor) (h : Header) (log : Log) : Type 0 where

@@ -1,4 +1,3 @@
-pub mod Activations
 pub mod Auditing
 pub mod Findings
 pub mod Groups

@@ -8,35 +8,38 @@ ghost use Rattle.speed_bin.specs.Header.{IsAccepted, bound as bound_of, shape_of
 ghost use Rattle.speed_bin.specs.Log.{Log};
 ghost use Rattle.speed_bin.specs.Rules.{first_failing, all_closed, is_write, rule_1, rule_14, verdict_at_end};
 ghost use Rattle.speed_bin.specs.declared.header.Header.{Header as AnyHeader};
-ghost use Rattle.log_auditor.specs.Activations.{MayCount};
+ghost use Rattle.bank_state.specs.Standing.{StandsFor as BanksFor};
+ghost use Rattle.row_activity.specs.Counted.{MayCount};
+ghost use Rattle.row_activity.specs.Standing.{StandsFor as ActivityFor, MayIssue};
 ghost use Rattle.log_auditor.specs.Groups.{first_broken, first_broken_at_end};
 ghost use Rattle.log_auditor.specs.Ledger.{Follows};
 ghost use Rattle.log_auditor.specs.Auditing.{Parts, Keeps, StandsFor, Taken, told, told_state, is_open as is_open_state, write_of as write_in};
 
-use crate::activations::Activations;
 use crate::ledger::Ledger;
 use crate::rules::{alert_rule, bank_rule, count_rule, failing, until};
 use crate::{Rule, Verdict};
 use arrayvec::ArrayVec;
 use backoff::laws::bound;
+use bank_state::Banks;
 use command_words::{Command, Mrw};
 use ddr_io::OutOfMemory;
 use ddr_text::ReportLine;
 use mode_registers::writes;
-use speed_bin::{Header, Timing};
+use row_activity::Activity;
+use speed_bin::{Header, Settings, Timing};
 use std::alloc::Global;
 
 /// Judges the commands of a report by the rules of `docs/RULES.md`, one line after another. It keeps no list of them.
 #[derive(Drop)]
 pub struct Auditor {
     timing: Timing,
-    raaimt: u32,
+    settings: Settings,
     // The register writes that a log begins with.
     writes: ArrayVec<Mrw, 8>,
     // How many commands were taken, and 8 where there were more.
     places: usize,
     ledger: Ledger,
-    activations: Activations,
+    activity: Activity,
     state: State,
 }
 
@@ -62,14 +65,14 @@ impl Auditor {
         ensures { IfOk result (λ auditor. StandsFor auditor header.now []) }
     {
         let ledger = Ledger::new(alloc, header)?;
-        let activations = Activations::new(alloc, &header.settings, header.version)?;
+        let activity = Activity::new(alloc, header)?;
         Ok(Auditor {
             timing: header.timing,
-            raaimt: header.settings.raaimt,
+            settings: header.settings,
             writes: writes(&header.settings),
             places: 0,
             ledger,
-            activations,
+            activity,
             state: State::Open,
         })
     }
@@ -154,7 +157,13 @@ impl Auditor {
             → Parts self.new h (record { clock = clock; command = command.now } ∷ log) }
         ensures state { self.new.state ≡ self.old.state }
     {
-        self.activations.issue(clock, command, &self.ledger.banks);
+        count(
+            &mut self.activity,
+            clock,
+            command,
+            &self.ledger.banks,
+            &self.settings,
+        );
         self.ledger.issue(clock, command);
         if self.places < 8 {
             self.places += 1;
@@ -167,14 +176,14 @@ impl Auditor {
         requires parts { (h : AnyHeader) × (log : Log) × IsAccepted h × Parts self.now h log }
         ensures { (h : AnyHeader) (log : Log) → Parts self.now h log → result ≡ first_broken h clock command.now log }
     {
-        let raised = self.activations.alert.raised().is_some();
+        let raised = self.activity.alert().raised().is_some();
         self.ledger
             .gate
             .broken(clock, command)
             .or(bank_rule(&self.ledger.banks, command))
             .or(self.ledger.plan.broken(command, clock))
-            .or(count_rule(&self.ledger.raa, self.raaimt, raised, command))
-            .or(alert_rule(&self.activations.alert, &self.timing, clock, command))
+            .or(count_rule(&self.ledger.raa, self.settings.raaimt, raised, command))
+            .or(alert_rule(self.activity.alert(), &self.timing, clock, command))
             .or(self.write_rule(command))
     }
 
@@ -184,7 +193,7 @@ impl Auditor {
         requires parts { (h : AnyHeader) × (log : Log) × IsAccepted h × Parts self.now h log }
         ensures { (h : AnyHeader) (log : Log) → Parts self.now h log → result ≡ first_broken_at_end h clock log }
     {
-        let in_time = until(clock, self.activations.alert.deadline(&self.timing));
+        let in_time = until(clock, self.activity.alert().deadline(&self.timing));
         failing(self.is_last(clock), 1)
             .or(failing(self.ledger.plan.allowed_at_end(clock), 6))
             .or(failing(in_time, 13))
@@ -204,7 +213,7 @@ impl Auditor {
         ensures { (h : AnyHeader) (log : Log) → Parts self.now h log → result ≡ (nat_le 8 (length log) && (all_closed log && is_none (alert h log))) }
     {
         let closed = self.ledger.banks.all_closed();
-        let calm = self.activations.alert.raised().is_none();
+        let calm = self.activity.alert().raised().is_none();
         8 <= self.places && closed && calm
     }
 
@@ -228,6 +237,22 @@ impl Auditor {
             None => false,
         }
     }
+}
+
+// Counts a command under these settings, where these are the open rows before it.
+fn count(
+    activity: &mut Activity,
+    clock: u64,
+    command: &Command,
+    open_rows: &Banks,
+    settings: &Settings,
+)
+    requires { MayIssue activity.old open_rows.now clock command.now }
+    ensures { (h : AnyHeader) (log : Log) → ActivityFor activity.old h log → BanksFor open_rows.now log → MayCount h clock command.now log
+        → settings.now ≡ h.settings
+        → ActivityFor activity.new h (record { clock = clock; command = command.now } ∷ log) }
+{
+    activity.issue(clock, command, open_rows, Some(*settings));
 }
 
 // The register write that the command is, if it is one.

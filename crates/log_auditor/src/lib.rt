@@ -1,10 +1,8 @@
 //! The audit of a command log: whether it satisfies the rules, or the first place that fails and the least rule there.
 #![tactic(auto)]
 
-mod activations;
 mod audit_loop;
 mod auditor;
-mod bank_activity;
 mod finding;
 mod ledger;
 mod report_reader;

@@ -16,6 +16,6 @@ returns c = λ h log parts.
     c.failing.ensures c.failing-2.ensures c.failing-3.ensures c.failing-4.ensures
     (c.is_last.ensures h log parts)
     (c.allowed_at_end.ensures h log parts.ledger.plan)
-    (c.until-in_time.ensures ∙ ap (λ o. until clock o) (c.deadline.ensures.log h log parts.activations.alert ∙ ap (λ (t : Timing). after (alert h log) (t.nabo + n_tail t)) parts.timing))
+    (c.until-in_time.ensures ∙ ap (λ o. until clock o) (c.deadline.ensures.log h log (c.alert.ensures h log parts.activity) ∙ ap (λ (t : Timing). after (alert h log) (t.nabo + n_tail t)) parts.timing))
     (c.is_complete.ensures h log parts)
     refl)
