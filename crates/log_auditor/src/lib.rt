@@ -7,6 +7,8 @@ mod finding;
 mod ledger;
 mod report_reader;
 mod rules;
+#[cfg(test)]
+mod tests;
 mod verdict;
 
 pub use audit_loop::audit;
