@@ -6,6 +6,7 @@ use Rattle.command_words.specs.declared.words.WordFault.TheVariants as word
 use Rattle.ddr_io.specs.declared.status.Status.TheVariants as status
 use Rattle.ddr_text.specs.Grammar.{trace_line_of}
 use Rattle.ddr_text.specs.Opening.{Accepts, Refuses, is_long, opening_of, parts_of}
+use Rattle.ddr_text.specs.Reason.{fault_reason}
 use Rattle.ddr_text.specs.Spelling.{spelled}
 use Rattle.ddr_text.specs.declared.lines.LineFault.{LineFault}
 use Rattle.ddr_text.specs.declared.lines.LineFault.TheVariants.{Empty, Letter, Fields, Number, Range, Hex, Word}
@@ -15,7 +16,7 @@ use Rattle.speed_bin.specs.declared.header.Header.{Header}
 use Rattle.reports.specs.Barriers.{idle_clocks}
 use Rattle.ddr_text.specs.ReportParts.{Refusal}
 use Rattle.reports.specs.Whole.{IsReportOf}
-use Rattle.trace_replay.specs.Job.{IsTrace, Traced, at_end, clocks_of, continued, fault_reason, if_read, is_full, trace_from, trace_of, with_part}
+use Rattle.trace_replay.specs.Job.{IsTrace, Traced, at_end, clocks_of, continued, if_read, is_full, trace_from, trace_of, with_part}
 use Rattle.trace_replay.specs.Replay.{Answers, Reports, refusal_of}
 use Rattle.audited_reports.specs.Audited.{IsAuditedOk, IsTold, IsWithinLimits}
 

@@ -1,5 +1,5 @@
 -- The checks of a header have the numbers 1 to 8.
-use Rattle.std.proofs.Common.{◌≡◌, ℕ, suc, ◌+◌, ◌<◌, ◌≤◌, ◌⊎◌, inl, inr, Bool, true, false, if◌then◌else◌, List, [], ◌∷◌, length, not, ◌&&◌, refl, sym, ◌∙◌, subst, arith, Option, Some, None, Result, Ok, Err}
+use Rattle.std.proofs.Common.{◌≡◌, ℕ, suc, ◌+◌, ◌<◌, ◌≤◌, ◌⊎◌, inl, inr, Bool, true, false, if◌then◌else◌, List, [], ◌∷◌, length, not, ◌&&◌, refl, sym, ap, ◌∙◌, subst, arith, Option, Some, None, Result, Ok, Err}
 use Rattle.std.specs.Str.{is_utf8}
 use Rattle.std.specs.Prelude.{codes, option_and_then}
 use Rattle.speed_bin.specs.Document.{checks_of, failed, checked, with_bin, header_of, header_stated, timing_in, settings_in, text_at}
@@ -11,7 +11,11 @@ use Rattle.speed_bin.specs.declared.fault.HeaderFault.TheVariants.{NotToml, Key,
 use Rattle.speed_bin.specs.Version.{Figures}
 use Rattle.speed_bin.specs.declared.header.Header.{Header}
 use Rattle.speed_bin.specs.declared.timing.Timing.{Timing}
-use Rattle.ddr_text.specs.Opening.{IsReason}
+use Rattle.ddr_text.specs.Front.{IsOpeningReason}
+use Rattle.ddr_text.specs.Opening.{Refuses, judged, number_or_none}
+use Rattle.ddr_text.specs.Reason.{number_of, of_header}
+use Rattle.ddr_text.specs.declared.reason.Reason.{Reason}
+use Rattle.ddr_text.specs.declared.reason.Reason.TheVariants as told
 
 abbrev IsCheck : ℕ → Type 0
 IsCheck check = (1 ≤ check) × (check ≤ 8)
@@ -57,17 +61,34 @@ of_members version (Some top) =
 of_text : (version : Figures) (text : List ℕ) → FailsCheck (header_stated version text)
 of_text version text = either (is_utf8 text) _ _ (of_members version _) tt
 
--- the reason of a check is one of the reasons
-pub reason_of_check : (version : Figures) (text : List ℕ) (check : ℕ) → header_stated version text ≡ Err (Check check) → (20 + check ≤ 28) × IsReason (20 + check)
-reason_of_check version text check is =
+-- the reason of a fault of a text is one of an opening
+is_reason : (version : Figures) (text : List ℕ) (fault : HeaderFault) (reason : Reason) → header_stated version text ≡ Err fault → of_header fault ≡ Some reason → IsOpeningReason reason
+is_reason version text NotToml reason is e = let same : told.NotToml ≡ reason = cc in subst IsOpeningReason same (tt, inl (omega arith, omega arith))
+is_reason version text Key reason is e = let same : told.HeaderKey ≡ reason = cc in subst IsOpeningReason same (tt, inl (omega arith, omega arith))
+is_reason version text Kind reason is e = let same : told.HeaderKind ≡ reason = cc in subst IsOpeningReason same (tt, inl (omega arith, omega arith))
+is_reason version text Range reason is e = let same : told.HeaderRange ≡ reason = cc in subst IsOpeningReason same (tt, inl (omega arith, omega arith))
+is_reason version text NoBin reason is e = let same : told.UnknownBin ≡ reason = cc in subst IsOpeningReason same (tt, inl (omega arith, omega arith))
+is_reason version text (Check check) reason is e =
     let is_check : IsCheck check = subst FailsCheck is (of_text version text) in
-    (omega (arith, is_check.1), inr (omega (arith, is_check.0), omega (arith, is_check.1)))
+    let same : told.FailedCheck check ≡ reason = cc in
+    subst IsOpeningReason same (is_check, inr (omega (arith, is_check.0), omega (arith, is_check.1)))
+is_reason version text OutOfMemory reason is e = absurd (let no : ⊥ = cc in no)
 
 -- a header that was read is the one that the text states
 pub stated_ok : (version : Figures) (text : List ℕ) (h : Header) (r : Result Header HeaderFault) → r ≡ Ok h → (r ≡ Err OutOfMemory) ⊎ (r ≡ header_stated version text) → header_stated version text ≡ Ok h
 stated_ok version text h r found (inl is) = absurd (let no : ⊥ = cc in no)
 stated_ok version text h r found (inr is) = sym is ∙ found
 
-pub stated : (version : Figures) (text : List ℕ) (check : ℕ) (r : Result Header HeaderFault) → r ≡ Err (Check check) → (r ≡ Err OutOfMemory) ⊎ (r ≡ header_stated version text) → header_stated version text ≡ Err (Check check)
-stated version text check r found (inl is) = absurd (let no : ⊥ = cc in no)
-stated version text check r found (inr is) = sym is ∙ found
+stated : (version : Figures) (text : List ℕ) (fault : HeaderFault) (reason : Reason) (r : Result Header HeaderFault) → r ≡ Err fault → of_header fault ≡ Some reason
+    → (r ≡ Err OutOfMemory) ⊎ (r ≡ header_stated version text) → header_stated version text ≡ Err fault
+stated version text fault reason r found e (inl is) =
+    let same : fault ≡ OutOfMemory = (let both = sym found ∙ is in cc) in
+    absurd (let no : None ≡ Some reason = sym (ap of_header same) ∙ e in cc)
+stated version text fault reason r found e (inr is) = sym is ∙ found
+
+-- a header with a fault is refused with its reason
+pub refused_header : (version : Figures) (text : List ℕ) (fault : HeaderFault) (reason : Reason) (r : Result Header HeaderFault) → r ≡ Err fault → of_header fault ≡ Some reason
+    → (r ≡ Err OutOfMemory) ⊎ (r ≡ header_stated version text) → IsOpeningReason reason × (judged text [] (header_stated version text) ≡ Refuses (number_of reason))
+refused_header version text fault reason r found e known =
+    let is = stated version text fault reason r found e known in
+    (is_reason version text fault reason is e, ap (judged text []) is ∙ ap (λ o. Refuses (number_or_none o)) e)

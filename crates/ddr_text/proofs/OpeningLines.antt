@@ -12,6 +12,9 @@ use Rattle.ddr_io.specs.declared.line_reader.Line.TheVariants.{Text, End, TooLon
 use Rattle.ddr_text.specs.declared.opening.Front.TheVariants as front
 use Rattle.ddr_text.specs.Front.{IsFront}
 use Rattle.ddr_text.specs.Opening.{Heading, Refuses, IsUnopened, is_feed, parts_of, with_feed, is_long, is_large, after_line, heading_in, with_heading, opening_of}
+use Rattle.ddr_text.specs.Reason.{number_of}
+use Rattle.ddr_text.specs.declared.reason.Reason.{Reason}
+use Rattle.ddr_text.specs.declared.reason.Reason.TheVariants.{FaultySeparator, HeaderTooLong, NoSeparator}
 use Rattle.ddr_text.specs.Separator.{Role, Ends, Faulty, Text as TextLine, role_of_line}
 use Rattle.speed_bin.specs.Version.{Figures}
 
@@ -137,23 +140,23 @@ found_separator (Some bytes) (Some left) (Some rest) text line separator version
     )
 
 -- the next line begins as a separator and is none
-pub faulty : (old now new : Option (List ℕ)) (text line : List ℕ) (reason : ℕ) → Continues old text now → IsNextLine now new line Text
-    → role_of_line line ≡ Faulty → reason ≡ (if is_large (text ++ with_feed line) then 17 else 29) → IsFront old new (front.Refused reason)
+pub faulty : (old now new : Option (List ℕ)) (text line : List ℕ) (reason : Reason) → Continues old text now → IsNextLine now new line Text
+    → role_of_line line ≡ Faulty → reason ≡ (if is_large (text ++ with_feed line) then HeaderTooLong else FaultySeparator) → IsFront old new (front.Refused reason)
 faulty None now new text line reason continues next is why = tt
 faulty (Some bytes) None new text line reason continues next is why = absurd continues
 faulty (Some bytes) (Some left) None text line reason continues next is why = absurd next.2
 faulty (Some bytes) (Some left) (Some rest) text line reason continues next is why =
     line_read bytes left rest text line continues next.1 next.0 next.2
     ∙ ap (λ k. after_line text line k (heading_in (text ++ with_feed line) (parts_of rest))) is
-    ∙ told (is_large (text ++ with_feed line)) ∙ ap Err (sym why)
+    ∙ told (is_large (text ++ with_feed line)) ∙ ap (λ r. Err (number_of r)) (sym why)
   where
-    told : (large : Bool) → ◌≡◌ {A = Result Heading ℕ} (if large then Err 17 else Err 29) (Err (if large then 17 else 29))
+    told : (large : Bool) → ◌≡◌ {A = Result Heading ℕ} (if large then Err 17 else Err 29) (Err (number_of (if large then HeaderTooLong else FaultySeparator)))
     told true = refl
     told false = refl
 
 -- the next line is one too many
 pub too_much : (old now new : Option (List ℕ)) (text line : List ℕ) → Continues old text now → IsNextLine now new line Text
-    → role_of_line line ≡ TextLine → is_large (text ++ with_feed line) ≡ true → IsFront old new (front.Refused 17)
+    → role_of_line line ≡ TextLine → is_large (text ++ with_feed line) ≡ true → IsFront old new (front.Refused HeaderTooLong)
 too_much None now new text line continues next is large = tt
 too_much (Some bytes) None new text line continues next is large = absurd continues
 too_much (Some bytes) (Some left) None text line continues next is large = absurd next.2
@@ -194,19 +197,19 @@ short_left text left few clean =
     ap (heading_in text) (slice_split_none is_feed left (no_feeds left clean)) ∙ ap (λ b. if b then Err 17 else Err 16) (short left few)
 
 -- the next 512 bytes are no line
-pub too_long : (old now new later : Option (List ℕ)) (text line : List ℕ) → Continues old text now → IsNextLine now new line TooLong → IsFront old later (front.Refused 17)
+pub too_long : (old now new later : Option (List ℕ)) (text line : List ℕ) → Continues old text now → IsNextLine now new line TooLong → IsFront old later (front.Refused HeaderTooLong)
 too_long None now new later text line continues next = tt
 too_long (Some bytes) None new later text line continues next = absurd continues
 too_long (Some bytes) (Some left) new later text line continues next = continues ∙ long_left text left next.0.0 next.0.1
 
 -- the end comes within a line
-pub unended : (old now new later : Option (List ℕ)) (text line : List ℕ) → Continues old text now → IsNextLine now new line Unended → IsFront old later (front.Refused 16)
+pub unended : (old now new later : Option (List ℕ)) (text line : List ℕ) → Continues old text now → IsNextLine now new line Unended → IsFront old later (front.Refused NoSeparator)
 unended None now new later text line continues next = tt
 unended (Some bytes) None new later text line continues next = absurd continues
 unended (Some bytes) (Some left) new later text line continues next = continues ∙ short_left text left next.0.1 next.0.2
 
 -- no byte is left
-pub at_end : (old now new later : Option (List ℕ)) (text line : List ℕ) → Continues old text now → IsNextLine now new line End → IsFront old later (front.Refused 16)
+pub at_end : (old now new later : Option (List ℕ)) (text line : List ℕ) → Continues old text now → IsNextLine now new line End → IsFront old later (front.Refused NoSeparator)
 at_end None now new later text line continues next = tt
 at_end (Some bytes) None new later text line continues next = absurd continues
 at_end (Some bytes) (Some left) new later text line continues next =

@@ -6,6 +6,7 @@ use Rattle.ddr_io.specs.declared.line_reader.Line.TheVariants.{Text as TextLine}
 use Rattle.speed_bin.specs.Document.{header_stated}
 use Rattle.speed_bin.specs.Version.{Figures}
 use Rattle.ddr_text.specs.Opening.{IsReason, Accepts, Refuses, judged, heading_in, parts_of, behind, with_feed}
+use Rattle.ddr_text.specs.Reason.{HasNumber, number_of}
 use Rattle.ddr_text.specs.Separator.{Ends, role_of_line}
 use Rattle.ddr_text.specs.declared.opening.Front.{Front}
 use Rattle.ddr_text.specs.declared.opening.Front.TheVariants.{Text, Refused as RefusedFront, Failed as FailedFront}
@@ -13,6 +14,7 @@ use Rattle.ddr_text.specs.declared.opening.Apart.{Apart}
 use Rattle.ddr_text.specs.declared.opening.Apart.TheVariants as apart
 use Rattle.ddr_text.specs.declared.opening.Opening.{Opening}
 use Rattle.ddr_text.specs.declared.opening.Opening.TheVariants.{Accepted, Refused, Failed}
+use Rattle.ddr_text.specs.declared.reason.Reason.{Reason}
 
 -- behind a header that is accepted the reader has neither ended nor failed
 abbrev pub GoesOn : Line → Opening → Type 0
@@ -25,10 +27,14 @@ FrontGoesOn last (Text text separator version) = last ≡ TextLine
 FrontGoesOn last (RefusedFront reason) = ⊤
 FrontGoesOn last FailedFront = ⊤
 
+-- a reason to refuse an opening
+abbrev pub IsOpeningReason : Reason → Type 0
+IsOpeningReason reason = HasNumber reason × IsReason (number_of reason)
+
 -- a separator of this version, or a reason
 abbrev pub HasReason : Front → Type 0
 HasReason (Text text separator version) = (line : List ℕ) × (separator ≡ with_feed line) × (role_of_line line ≡ Ends version)
-HasReason (RefusedFront reason) = IsReason reason
+HasReason (RefusedFront reason) = IsOpeningReason reason
 HasReason FailedFront = ⊤
 
 -- the heading of a job, or the reason that there is none
@@ -37,7 +43,7 @@ IsFront None new front = ⊤
 IsFront (Some bytes) new (Text text separator version) =
     (line : List ℕ) × (separator ≡ with_feed line) × (heading_in [] (parts_of bytes) ≡ Ok (record { text = text; separator = line; version = version }))
     × (new ≡ Some (behind (text ++ separator) bytes))
-IsFront (Some bytes) new (RefusedFront reason) = heading_in [] (parts_of bytes) ≡ Err reason
+IsFront (Some bytes) new (RefusedFront reason) = heading_in [] (parts_of bytes) ≡ Err (number_of reason)
 IsFront (Some bytes) new FailedFront = ⊤
 
 -- the header that a text states in front of a separator with this version, or the reason of its first fault

@@ -6,6 +6,8 @@ pub mod ReportGrammar
 pub mod Spelling
 pub mod ReportParts
 pub mod Ranges
+pub mod Reason
+pub mod ReasonText
 pub mod Separator
 pub mod Seen
 pub mod Opening

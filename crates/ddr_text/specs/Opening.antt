@@ -6,12 +6,14 @@ use Rattle.ddr_io.specs.Line.{line_feed}
 use Rattle.speed_bin.specs.Document.{header_stated}
 use Rattle.speed_bin.specs.Header.{IsAccepted}
 use Rattle.speed_bin.specs.declared.fault.HeaderFault.{HeaderFault}
-use Rattle.speed_bin.specs.declared.fault.HeaderFault.TheVariants.{NotToml, Key, Kind, Range, NoBin, Check, OutOfMemory}
 use Rattle.speed_bin.specs.declared.header.Header.{Header}
 use Rattle.speed_bin.specs.Version.{Figures}
+use Rattle.ddr_text.specs.Reason.{number_of, of_header}
 use Rattle.ddr_text.specs.Separator.{Role, Ends, Faulty, Text, role_of_line}
 use Rattle.ddr_text.specs.declared.opening.Opening.{Opening}
 use Rattle.ddr_text.specs.declared.opening.Opening.TheVariants.{Accepted, Refused, Failed}
+use Rattle.ddr_text.specs.declared.reason.Reason.{Reason}
+use Rattle.ddr_text.specs.declared.reason.Reason.TheVariants.{FaultySeparator, HeaderTooLong, NoSeparator}
 
 abbrev pub is_feed : ℕ → Bool
 is_feed byte = byte == line_feed
@@ -44,26 +46,24 @@ opening_text heading = heading.text ++ with_feed heading.separator
 -- behind this much of a header text: a line of this kind, and what the parts behind it give
 abbrev pub after_line : List ℕ → List ℕ → Role → Result Heading ℕ → Result Heading ℕ
 after_line text line (Ends version) rest = Ok (record { text = text; separator = line; version = version })
-after_line text line Faulty rest = if is_large (text ++ with_feed line) then Err 17 else Err 29
-after_line text line Text rest = if is_large (text ++ with_feed line) then Err 17 else rest
+after_line text line Faulty rest = if is_large (text ++ with_feed line) then Err (number_of HeaderTooLong) else Err (number_of FaultySeparator)
+after_line text line Text rest = if is_large (text ++ with_feed line) then Err (number_of HeaderTooLong) else rest
 
 -- The heading of a job, of whose header text this much stands before these parts. Or the reason that there is none: the
--- end comes first (16), a long line or too many bytes (17), or a line that begins as a separator and is none (29).
+-- end comes first, a long line or too many bytes, or a line that begins as a separator and is none.
 abbrev pub heading_in : List ℕ → List (List ℕ) → Result Heading ℕ
-heading_in text [] = Err 16
-heading_in text (last ∷ []) = if is_long last then Err 17 else Err 16
+heading_in text [] = Err (number_of NoSeparator)
+heading_in text (last ∷ []) = if is_long last then Err (number_of HeaderTooLong) else Err (number_of NoSeparator)
 heading_in text (line ∷ next ∷ parts) =
-    if is_long line then Err 17 else after_line text line (role_of_line line) (heading_in (text ++ with_feed line) (next ∷ parts))
+    if is_long line then Err (number_of HeaderTooLong) else after_line text line (role_of_line line) (heading_in (text ++ with_feed line) (next ∷ parts))
 
--- the reason of a header's fault; want of memory is the fault of no text
+abbrev pub number_or_none : Option Reason → ℕ
+number_or_none (Some reason) = number_of reason
+number_or_none None = 0
+
+-- the number of the reason of a header's fault, and 0 where it has none
 abbrev pub reason_of : HeaderFault → ℕ
-reason_of NotToml = 11
-reason_of Key = 12
-reason_of Kind = 13
-reason_of Range = 14
-reason_of NoBin = 15
-reason_of (Check check) = 20 + check
-reason_of OutOfMemory = 0
+reason_of fault = number_or_none (of_header fault)
 
 -- How bytes open a job: with this header, its text with the separator, and the bytes behind them; or with this reason to
 -- refuse it.

@@ -9,6 +9,10 @@ mod opening;
 #[cfg(test)]
 mod opening_tests;
 mod pieces;
+mod reason;
+#[cfg(test)]
+mod reason_tests;
+mod reason_text;
 mod report_line;
 #[cfg(test)]
 mod report_line_tests;
@@ -25,6 +29,7 @@ pub use header_text::HeaderText;
 pub use lines::{LineFault, ReportLine, StatName, TraceLine};
 pub use opening::{Apart, Opening, open_apart, open_job};
 pub use pieces::{put_bytes, put_number, put_spaced, put_text};
+pub use reason::Reason;
 pub use report_line::{read_report_line, report_lines};
 pub use spelling::write_report_line;
 pub use trace_line::{read_trace_line, trace_grammar};

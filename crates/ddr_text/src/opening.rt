@@ -7,13 +7,14 @@ ghost use Rattle.speed_bin.specs.Document.{header_stated};
 ghost use Rattle.ddr_text.specs.Opening.{IsOpening, IsAnswer, IsUnopened, judged, with_feed, is_large};
 ghost use Rattle.ddr_text.specs.Separator.{Ends, role_of_line};
 ghost use Rattle.ddr_text.specs.Apart.{IsApart, IsApartAnswer, ApartGoesOn};
-ghost use Rattle.ddr_text.specs.Front.{IsFront, GoesOn, FrontGoesOn, HasReason, IsJudged};
+ghost use Rattle.ddr_text.specs.Front.{IsFront, GoesOn, FrontGoesOn, HasReason, IsJudged, IsOpeningReason};
 ghost use Rattle.ddr_text.specs.declared.opening.Opening.TheVariants.{Accepted as AcceptedOpening};
 
+use crate::Reason;
 use crate::header_text::HeaderText;
 use crate::separator::{LineRole, role_of};
 use ddr_io::{Line, LineReader, OutOfMemory, Source};
-use speed_bin::{Header, HeaderFault, Version, read_header};
+use speed_bin::{Header, Version, read_header};
 use std::alloc::Global;
 
 // A header has at most so many bytes, with its line feeds.
@@ -46,7 +47,7 @@ pub enum Apart {
 enum Front {
     // The text of the header, the separator with its line feed, and the version that this states.
     Text(HeaderText, HeaderText, Version),
-    Refused(u8),
+    Refused(Reason),
     Failed,
 }
 
@@ -118,7 +119,7 @@ pub fn open_apart<S: Source>(
 {
     match read_front(alloc, reader, source)? {
         Front::Text(text, separator, version) => judge(alloc, text, separator, version),
-        Front::Refused(reason) => Ok(Apart::Refused(reason)),
+        Front::Refused(reason) => Ok(Apart::Refused(reason.number())),
         Front::Failed => Ok(Apart::Failed),
     }
 }
@@ -155,28 +156,33 @@ fn read_front<S: Source>(
                     }
                     LineRole::Text => {
                         if is_too_much(&text, line) {
-                            return Ok(Front::Refused(17));
+                            return Ok(Front::Refused(Reason::HeaderTooLong));
                         }
                         text.push_line(line)?;
                     }
                 }
             }
-            Line::TooLong => return Ok(Front::Refused(17)),
-            Line::End => return Ok(Front::Refused(16)),
-            Line::Unended => return Ok(Front::Refused(16)),
+            Line::TooLong => return Ok(Front::Refused(Reason::HeaderTooLong)),
+            Line::End => return Ok(Front::Refused(Reason::NoSeparator)),
+            Line::Unended => return Ok(Front::Refused(Reason::NoSeparator)),
             Line::Failed => return Ok(Front::Failed),
         }
     }
 }
 
-// The reason to refuse a line that begins as a separator and is none: 17 where the header would have too many bytes with it.
-fn faulty_reason(text: &HeaderText, line: &[u8]) -> u8
+// The reason to refuse a line that begins as a separator and is none. That the header would have too many bytes with it
+// comes first.
+fn faulty_reason(text: &HeaderText, line: &[u8]) -> Reason
     requires short { length line.now < 512 }
     requires few { length text.now ≤ 65536 }
-    ensures reason { result ≡ (if is_large (text.now ++ with_feed line.now) then 17 else 29) }
-    ensures in_range { (17 ≤ result) × (result ≤ 29) }
+    ensures reason { result ≡ (if is_large (text.now ++ with_feed line.now) then Reason.HeaderTooLong else Reason.FaultySeparator) }
+    ensures opening { IsOpeningReason result }
 {
-    if is_too_much(text, line) { 17 } else { 29 }
+    if is_too_much(text, line) {
+        Reason::HeaderTooLong
+    } else {
+        Reason::FaultySeparator
+    }
 }
 
 // Whether a header would have too many bytes with this line.
@@ -201,12 +207,9 @@ fn judge(
 {
     match read_header(alloc, text.bytes(), version) {
         Ok(header) => Ok(Apart::Accepted(header, text, separator)),
-        Err(HeaderFault::NotToml) => Ok(Apart::Refused(11)),
-        Err(HeaderFault::Key) => Ok(Apart::Refused(12)),
-        Err(HeaderFault::Kind) => Ok(Apart::Refused(13)),
-        Err(HeaderFault::Range) => Ok(Apart::Refused(14)),
-        Err(HeaderFault::NoBin) => Ok(Apart::Refused(15)),
-        Err(HeaderFault::Check(check)) => Ok(Apart::Refused(20 + check)),
-        Err(HeaderFault::OutOfMemory) => Err(OutOfMemory),
+        Err(fault) => match Reason::of_header(fault) {
+            Some(reason) => Ok(Apart::Refused(reason.number())),
+            None => Err(OutOfMemory),
+        },
     }
 }

@@ -2,18 +2,17 @@
 use Rattle.std.specs.Prelude.{ℕ, suc, ◌≡◌, ◌+◌, ◌≤◌, ⊤, nat_lt, Bool, true, false, if◌then◌else◌, List, [], ◌∷◌, Some, None, Result, Ok, Err}
 use Rattle.std.specs.declared.option.Option.{Option}
 use Rattle.command_words.specs.Geometry.{Shape}
-use Rattle.command_words.specs.declared.words.WordFault.{WordFault}
-use Rattle.command_words.specs.declared.words.WordFault.TheVariants.{Unknown, SecondMissing, SecondExtra, Reserved, Range as WordRange}
 use Rattle.ddr_io.specs.Reading.{Reading as ReaderOfLines}
 use Rattle.ddr_io.specs.declared.line_reader.Line.TheVariants.{Text as TextAnswer}
 use Rattle.ddr_text.specs.AcceptedReport.{IsReportLine}
 use Rattle.ddr_text.specs.Opening.{parts_of, is_long}
+use Rattle.ddr_text.specs.Reason.{fault_reason, number_of}
 use Rattle.ddr_text.specs.ReportGrammar.{report_line_of}
 use Rattle.ddr_text.specs.ReportParts.{Refusal}
 use Rattle.ddr_text.specs.declared.lines.LineFault.{LineFault}
-use Rattle.ddr_text.specs.declared.lines.LineFault.TheVariants.{Empty, Letter, Fields, Number, Range, Hex, Word}
 use Rattle.ddr_text.specs.declared.lines.ReportLine.{ReportLine}
 use Rattle.ddr_text.specs.declared.lines.ReportLine.TheVariants.{Issued, Value, Flip, Stat, End, Refused}
+use Rattle.ddr_text.specs.declared.reason.Reason.TheVariants.{LineOutOfPlace, LineTooLong, LineUnended, NoEndLine, TooManyLines}
 use Rattle.log_auditor.specs.declared.report_reader.Next.{Next}
 use Rattle.log_auditor.specs.declared.report_reader.Next.TheVariants.{Line, End as AtEnd, Refused as Refuses, Failed}
 use Rattle.log_auditor.specs.declared.report_reader.Stage.{Stage}
@@ -42,24 +41,6 @@ is_whole Counts = false
 is_whole Ended = true
 is_whole Closed = true
 
--- ---- Reasons
-
-abbrev pub word_reason : WordFault → ℕ
-word_reason Unknown = 31
-word_reason SecondMissing = 32
-word_reason SecondExtra = 33
-word_reason Reserved = 34
-word_reason WordRange = 35
-
-abbrev pub reason_of : LineFault → ℕ
-reason_of Empty = 1
-reason_of Letter = 2
-reason_of Fields = 3
-reason_of Number = 4
-reason_of Range = 5
-reason_of Hex = 6
-reason_of (Word fault) = word_reason fault
-
 -- ---- Lines
 
 -- a line, and the stage behind it
@@ -67,28 +48,28 @@ pub record Placed : Type 0 where
   pub line : ReportLine
   pub stage : Stage
 
--- where it may not stand, the reason is 18
+-- the line, where it may stand
 abbrev pub placed : ReportLine → Option Stage → Result Placed ℕ
-placed line None = Err 18
+placed line None = Err (number_of LineOutOfPlace)
 placed line (Some stage) = Ok (record { line = line; stage = stage })
 
 abbrev pub in_place : Stage → Result ReportLine LineFault → Result Placed ℕ
-in_place stage (Err fault) = Err (reason_of fault)
+in_place stage (Err fault) = Err (fault_reason fault)
 in_place stage (Ok line) = placed line (stage_after stage line)
 
--- the line with this number that a text spells, or the reason to refuse it: too many lines (9), a long one (7), one that
--- is not in the grammar (1 to 6, 31 to 35), or one that may not stand there (18)
+-- the line with this number that a text spells, or the reason to refuse it: too many lines, a long one, one that is not in
+-- the grammar, or one that may not stand there
 unfoldable pub judged_line : Shape → Stage → ℕ → List ℕ → Result Placed ℕ
 judged_line g stage number text =
-    if nat_lt MOST_LINES number then Err 9
-    else if is_long text then Err 7
+    if nat_lt MOST_LINES number then Err (number_of TooManyLines)
+    else if is_long text then Err (number_of LineTooLong)
     else in_place stage (report_line_of g text)
 
--- what is behind the last line feed: nothing, where the report is whole, or the reason to refuse it (9, 7, a line without
--- its line feed (8), or no E line (19))
+-- what is behind the last line feed: nothing, where the report is whole, or the reason to refuse it (too many lines, a long
+-- one, a line without its line feed, or no E line)
 unfoldable pub judged_rest : Stage → ℕ → List ℕ → Option ℕ
-judged_rest stage number [] = if is_whole stage then None else Some 19
-judged_rest stage number (byte ∷ bytes) = Some (if nat_lt MOST_LINES number then 9 else if is_long (byte ∷ bytes) then 7 else 8)
+judged_rest stage number [] = if is_whole stage then None else Some (number_of NoEndLine)
+judged_rest stage number (byte ∷ bytes) = Some (if nat_lt MOST_LINES number then number_of TooManyLines else if is_long (byte ∷ bytes) then number_of LineTooLong else number_of LineUnended)
 
 -- ---- Reports
 

@@ -3,12 +3,13 @@ ghost use Rattle.std.specs.Prelude.{ℕ, ◌≡◌, ◌≢◌, ◌+◌, ◌<◌,
 ghost use Rattle.ddr_io.specs.Faults.{Rose};
 ghost use Rattle.ddr_io.specs.Line.{next_bytes};
 ghost use Rattle.ddr_text.specs.AcceptedReport.{IsReportLine};
+ghost use Rattle.ddr_text.specs.Reason.{HasNumber, number_of};
 ghost use Rattle.ddr_text.specs.declared.lines.ReportLine.{ReportLine as AnyReportLine};
-ghost use Rattle.log_auditor.specs.Reading.{Judges, StepsOn, IsStep, judged_line, is_whole, placed, reason_of, stage_after, word_reason};
+ghost use Rattle.log_auditor.specs.Reading.{Judges, StepsOn, IsStep, judged_line, is_whole, placed, stage_after};
 
-use command_words::{Geometry, WordFault};
+use command_words::Geometry;
 use ddr_io::{Line, LineReader, Source};
-use ddr_text::{LineFault, ReportLine, read_report_line, report_lines};
+use ddr_text::{Reason, ReportLine, read_report_line, report_lines};
 use std::marker::Model;
 
 // A report has at most so many lines behind its opening.
@@ -103,8 +104,8 @@ impl ReportReader {
     {
         match self.reader.next_line(source) {
             Line::Text => self.judge_line(),
-            Line::TooLong => self.refuse(7),
-            Line::Unended => self.refuse(8),
+            Line::TooLong => self.refuse_rest(Reason::LineTooLong),
+            Line::Unended => self.refuse_rest(Reason::LineUnended),
             Line::End => self.end(),
             Line::Failed => Next::Failed,
         }
@@ -117,12 +118,12 @@ impl ReportReader {
         ensures inside { (line : AnyReportLine) → result ≡ Next.Line line → IsReportLine self.old.shape line }
     {
         if self.number > MOST_LINES {
-            return Next::Refused(self.number, 9);
+            return self.refuse(Reason::TooManyLines);
         }
         report_lines();
         match read_report_line(self.reader.line(), self.geometry) {
             Ok(line) => self.place(line),
-            Err(fault) => Next::Refused(self.number, reason_of(fault)),
+            Err(fault) => self.refuse(Reason::from(fault)),
         }
     }
 
@@ -137,26 +138,38 @@ impl ReportReader {
                 self.number += 1;
                 Next::Line(line)
             }
-            None => Next::Refused(self.number, 18),
+            None => self.refuse(Reason::LineOutOfPlace),
         }
     }
 
-    // Refuses the bytes that are left, of which there are some: for this reason, or as one line too many.
-    fn refuse(&self, reason: u8) -> Next
-        ensures { result ≡ Next.Refused self.now.number (if nat_lt MOST_LINES self.now.number then 9 else reason) }
+    // Refuses the next line for this reason.
+    fn refuse(&self, reason: Reason) -> Next
+        requires { HasNumber reason }
+        ensures { result ≡ Next.Refused self.now.number (number_of reason) }
     {
-        let many = self.number > MOST_LINES;
-        Next::Refused(self.number, if many { 9 } else { reason })
+        Next::Refused(self.number, reason.number())
+    }
+
+    // Refuses the bytes that are left, of which there are some: for this reason, or as one line too many.
+    fn refuse_rest(&self, reason: Reason) -> Next
+        requires { HasNumber reason }
+        ensures { result ≡ Next.Refused self.now.number (if nat_lt MOST_LINES self.now.number then number_of Reason.TooManyLines else number_of reason) }
+    {
+        if self.number > MOST_LINES {
+            self.refuse(Reason::TooManyLines)
+        } else {
+            self.refuse(reason)
+        }
     }
 
     // What the end of the bytes is.
     fn end(&self) -> Next
-        ensures { result ≡ (if is_whole self.now.stage then Next.End else Next.Refused self.now.number 19) }
+        ensures { result ≡ (if is_whole self.now.stage then Next.End else Next.Refused self.now.number (number_of Reason.NoEndLine)) }
     {
         if self.stage.is_whole() {
             Next::End
         } else {
-            Next::Refused(self.number, 19)
+            self.refuse(Reason::NoEndLine)
         }
     }
 }
@@ -223,32 +236,5 @@ fn after_end(line: &ReportLine) -> Option<Stage>
         ReportLine::Stat(_, _) => None,
         ReportLine::End(_) => None,
         ReportLine::Refused(_, _) => Some(Stage::Closed),
-    }
-}
-
-// The reason of a fault of a line.
-fn reason_of(fault: LineFault) -> u8
-    ensures { result ≡ reason_of fault }
-{
-    match fault {
-        LineFault::Empty => 1,
-        LineFault::Letter => 2,
-        LineFault::Fields => 3,
-        LineFault::Number => 4,
-        LineFault::Range => 5,
-        LineFault::Hex => 6,
-        LineFault::Word(fault) => word_reason(fault),
-    }
-}
-
-fn word_reason(fault: WordFault) -> u8
-    ensures { result ≡ word_reason fault }
-{
-    match fault {
-        WordFault::Unknown => 31,
-        WordFault::SecondMissing => 32,
-        WordFault::SecondExtra => 33,
-        WordFault::Reserved => 34,
-        WordFault::Range => 35,
     }
 }

@@ -12,7 +12,8 @@ use Rattle.ddr_text.specs.declared.lines.TraceLine.TheVariants.{Idle}
 use Rattle.speed_bin.specs.Header.{shape_of}
 use Rattle.reports.specs.Barriers.{idle_clocks}
 use Rattle.reports.specs.Report.{report}
-use Rattle.trace_replay.specs.Job.{Traced, clocks_of, trace_from, trace_of, if_read, is_full, continued, ended, at_end, refused_behind, fault_reason}
+use Rattle.ddr_text.specs.Reason.{fault_reason}
+use Rattle.trace_replay.specs.Job.{Traced, clocks_of, trace_from, trace_of, if_read, is_full, continued, ended, at_end, refused_behind}
 use Rattle.trace_replay.specs.Reading.{Continues, IsRead, IsFront}
 use Rattle.trace_replay.specs.Progress.{IsUnder, IsBegun}
 use Rattle.trace_replay.specs.declared.progress.Ahead.{Ahead}

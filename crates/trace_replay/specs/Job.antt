@@ -3,13 +3,13 @@
 use Rattle.std.specs.Prelude.{ℕ, ⊤, ◌≡◌, ◌≤◌, ◌+◌, ◌++◌, nat_le, nat_lt, Bool, if◌then◌else◌, List, [], ◌∷◌, length, sum, Some, None, Result, Ok, Err}
 use Rattle.std.specs.declared.option.Option.{Option}
 use Rattle.command_words.specs.Geometry.{Shape}
-use Rattle.command_words.specs.declared.words.WordFault.TheVariants as word
 use Rattle.ddr_text.specs.Grammar.{trace_line_of}
+use Rattle.ddr_text.specs.Reason.{fault_reason, number_of}
 use Rattle.ddr_text.specs.Opening.{States, parts_of, is_long, IsReason, Accepts, Refuses, opening_of}
 use Rattle.ddr_text.specs.declared.lines.LineFault.{LineFault}
-use Rattle.ddr_text.specs.declared.lines.LineFault.TheVariants.{Empty, Letter, Fields, Number, Range, Hex, Word}
 use Rattle.ddr_text.specs.declared.lines.TraceLine.{TraceLine}
 use Rattle.ddr_text.specs.declared.lines.TraceLine.TheVariants.{Read, Write, Flip, Idle}
+use Rattle.ddr_text.specs.declared.reason.Reason.TheVariants.{LineTooLong, LineUnended, TooManyClocks, TooManyLines}
 use Rattle.speed_bin.specs.Header.{IsAccepted, shape_of}
 use Rattle.speed_bin.specs.declared.header.Header.{Header}
 use Rattle.reports.specs.Barriers.{idle_clocks}
@@ -21,20 +21,6 @@ MOST = 1048576
 
 -- ---- One line
 
--- the reason of a line's fault; no line of a trace has the fault Word
-abbrev pub fault_reason : LineFault → ℕ
-fault_reason Empty = 1
-fault_reason Letter = 2
-fault_reason Fields = 3
-fault_reason Number = 4
-fault_reason Range = 5
-fault_reason Hex = 6
-fault_reason (Word word.Unknown) = 31
-fault_reason (Word word.SecondMissing) = 32
-fault_reason (Word word.SecondExtra) = 33
-fault_reason (Word word.Reserved) = 34
-fault_reason (Word word.Range) = 35
-
 -- the clocks that a line lets pass
 abbrev pub clocks_of : TraceLine → ℕ
 clocks_of (Read line) = 0
@@ -44,7 +30,7 @@ clocks_of (Idle clocks) = clocks
 
 -- the trace with this line more, or the reason to refuse it: the sum of the I lines
 abbrev pub with_line : List TraceLine → TraceLine → Result (List TraceLine) ℕ
-with_line trace line = if nat_lt 4294967296 (sum (idle_clocks trace) + clocks_of line) then Err 10 else Ok (trace ++ line ∷ [])
+with_line trace line = if nat_lt 4294967296 (sum (idle_clocks trace) + clocks_of line) then Err (number_of TooManyClocks) else Ok (trace ++ line ∷ [])
 
 abbrev pub if_read : List TraceLine → Result TraceLine LineFault → Result (List TraceLine) ℕ
 if_read trace (Ok line) = with_line trace line
@@ -56,11 +42,11 @@ is_full trace = nat_le MOST (length trace)
 
 -- the trace with the line more that a text spells, or the first reason to refuse it
 abbrev pub with_text : Shape → List TraceLine → List ℕ → Result (List TraceLine) ℕ
-with_text g trace text = if is_full trace then Err 9 else if_read trace (trace_line_of g text)
+with_text g trace text = if is_full trace then Err (number_of TooManyLines) else if_read trace (trace_line_of g text)
 
 -- the same, where the text may be too long
 abbrev pub with_part : Shape → List TraceLine → List ℕ → Result (List TraceLine) ℕ
-with_part g trace part = if is_full trace then Err 9 else if is_long part then Err 7 else if_read trace (trace_line_of g part)
+with_part g trace part = if is_full trace then Err (number_of TooManyLines) else if is_long part then Err (number_of LineTooLong) else if_read trace (trace_line_of g part)
 
 -- the trace with the line that was found, or the reason that there is none
 abbrev pub extended : List TraceLine → Result TraceLine ℕ → Result (List TraceLine) ℕ
@@ -83,7 +69,7 @@ refused_behind trace reason = record { lines = trace; refused = Some reason }
 -- what has no line feed behind it is refused, where it has a byte
 abbrev pub at_end : List TraceLine → List ℕ → Traced
 at_end trace [] = ended trace
-at_end trace (byte ∷ bytes) = refused_behind trace (if is_full trace then 9 else if is_long (byte ∷ bytes) then 7 else 8)
+at_end trace (byte ∷ bytes) = refused_behind trace (if is_full trace then number_of TooManyLines else if is_long (byte ∷ bytes) then number_of LineTooLong else number_of LineUnended)
 
 abbrev pub continued : List TraceLine → Result (List TraceLine) ℕ → (List TraceLine → Traced) → Traced
 continued trace (Ok longer) go_on = go_on longer

@@ -2,15 +2,16 @@
 ghost use Rattle.std.specs.Prelude.{ℕ, ◌≡◌, ◌<◌, ◌≤◌, List, if◌then◌else◌, IfOk, IfErr, OnOk};
 ghost use Rattle.ondie_ecc.specs.Bits.{IsBytes};
 ghost use Rattle.ddr_io.specs.Line.{next_bytes};
+ghost use Rattle.ddr_text.specs.Reason.{HasNumber, number_of};
 ghost use Rattle.ddr_text.specs.declared.lines.TraceLine.{TraceLine as AnyLine};
-ghost use Rattle.trace_replay.specs.Job.{is_full, with_text, extended, fault_reason, clocks_of as clocks_in};
+ghost use Rattle.trace_replay.specs.Job.{is_full, with_text, extended, clocks_of as clocks_in};
 ghost use Rattle.trace_replay.specs.Reading.{IsNext, IsTally, IsMore, MayStand, GoesOn, IsUnread, HasBytes};
 ghost use Rattle.trace_replay.specs.Stop.{ReadCause};
 
 use crate::stop::Stop;
-use command_words::{Geometry, WordFault};
+use command_words::Geometry;
 use ddr_io::{Line, LineReader, Source};
-use ddr_text::{LineFault, TraceLine, read_trace_line, trace_grammar};
+use ddr_text::{Reason, TraceLine, read_trace_line, trace_grammar};
 
 // A trace has at most so many lines.
 const MOST_LINES: u64 = 1_048_576;
@@ -62,17 +63,23 @@ pub(crate) fn next_line<S: Source>(
             Err(reason) => Ok(Next::Refused(reason)),
         },
         Line::End => Ok(Next::End),
-        Line::TooLong => Ok(Next::Refused(unless_full(tally, 7))),
-        Line::Unended => Ok(Next::Refused(unless_full(tally, 8))),
+        Line::TooLong => Ok(Next::Refused(unless_full(tally, Reason::LineTooLong))),
+        Line::Unended => Ok(Next::Refused(unless_full(tally, Reason::LineUnended))),
         Line::Failed => Err(Stop::ReadFault),
     }
 }
 
 // A reason to refuse the line behind a trace, which comes after that of a line too many.
-fn unless_full(tally: Tally, reason: u8) -> u8
-    ensures { (trace : List AnyLine) → IsTally tally trace → result ≡ (if is_full trace then 9 else reason) }
+fn unless_full(tally: Tally, reason: Reason) -> u8
+    requires { HasNumber reason }
+    ensures { (trace : List AnyLine) → IsTally tally trace
+        → result ≡ (if is_full trace then number_of Reason.TooManyLines else number_of reason) }
 {
-    if tally.lines < MOST_LINES { reason } else { 9 }
+    if tally.lines < MOST_LINES {
+        reason.number()
+    } else {
+        Reason::TooManyLines.number()
+    }
 }
 
 // The line that a text spells behind a trace, or the first reason to refuse it.
@@ -82,7 +89,7 @@ fn judged(tally: Tally, text: &[u8], g: Geometry) -> Result<TraceLine, u8>
     ensures more { IfOk result (IsMore g tally) }
 {
     if tally.lines >= MOST_LINES {
-        return Err(9);
+        return Err(Reason::TooManyLines.number());
     }
     trace_grammar();
     match read_trace_line(text, g) {
@@ -91,10 +98,10 @@ fn judged(tally: Tally, text: &[u8], g: Geometry) -> Result<TraceLine, u8>
             if clocks_of(&line) <= MOST_CLOCKS - tally.clocks {
                 Ok(line)
             } else {
-                Err(10)
+                Err(Reason::TooManyClocks.number())
             }
         }
-        Err(fault) => Err(reason_of(fault)),
+        Err(fault) => Err(Reason::from(fault).number()),
     }
 }
 
@@ -123,24 +130,5 @@ fn clocks_of(line: &TraceLine) -> u64
         TraceLine::Read(_) => 0,
         TraceLine::Write(_, _) => 0,
         TraceLine::Flip(_, _, _) => 0,
-    }
-}
-
-// The reason of a line's fault.
-fn reason_of(fault: LineFault) -> u8
-    ensures { result ≡ fault_reason fault }
-{
-    match fault {
-        LineFault::Empty => 1,
-        LineFault::Letter => 2,
-        LineFault::Fields => 3,
-        LineFault::Number => 4,
-        LineFault::Range => 5,
-        LineFault::Hex => 6,
-        LineFault::Word(WordFault::Unknown) => 31,
-        LineFault::Word(WordFault::SecondMissing) => 32,
-        LineFault::Word(WordFault::SecondExtra) => 33,
-        LineFault::Word(WordFault::Reserved) => 34,
-        LineFault::Word(WordFault::Range) => 35,
     }
 }

@@ -1,13 +1,9 @@
-use Rattle.std.proofs.Common.{arith, ap, refl, sym, ◌∙◌, Err}
-use Rattle.ddr_text.proofs.CheckNumbers.{reason_of_check, stated, stated_ok}
+use Rattle.std.proofs.Common.{◌≡◌, [], ap, refl, sym, ◌∙◌, subst}
+use Rattle.ddr_text.proofs.CheckNumbers.{refused_header, stated_ok}
+use Rattle.ddr_text.specs.Opening.{Refuses, judged}
+use Rattle.ddr_text.specs.Reason.{number_of}
 use Rattle.speed_bin.specs.Document.{header_stated}
 use Rattle.ddr_text.proofs.opening.judge.Goals as goal
-
-pub overflow_add-result : goal.overflow_add-result
-overflow_add-result c = omega (arith, (reason_of_check _ _ c.in-Err-Check.check (stated _ _ _ c.read_header.result (c.in-Err-Check.is ∙ ap Err c.in-Err-Check.field-0-is) c.read_header.ensures.stated)).0)
-
-pub returns-in-Err-Check-clause-answer : goal.returns-in-Err-Check-clause-answer
-returns-in-Err-Check-clause-answer c = rw c.in-Err-Check.field-0-is (reason_of_check _ _ c.in-Err-Check.check (stated _ _ _ c.read_header.result (c.in-Err-Check.is ∙ ap Err c.in-Err-Check.field-0-is) c.read_header.ensures.stated)).1
 
 pub returns-in-Ok-clause-answer : goal.returns-in-Ok-clause-answer
 returns-in-Ok-clause-answer c =
@@ -19,3 +15,16 @@ returns-in-Ok-clause-answer c =
       record { text_is = refl; separator_is = whole; stated = states },
       role,
     )
+
+pub number-requires : goal.number-requires
+number-requires c = (refused_header c.args.version c.bytes.result.now c.in-Err.fault c.in-Some.reason _ c.in-Err.is (sym c.of_header.ensures ∙ c.in-Some.is) c.read_header.ensures.stated).0.0
+
+pub returns-in-Some-clause-judged : goal.returns-in-Some-clause-judged
+returns-in-Some-clause-judged c =
+    let told = refused_header c.args.version c.bytes.result.now c.in-Err.fault c.in-Some.reason _ c.in-Err.is (sym c.of_header.ensures ∙ c.in-Some.is) c.read_header.ensures.stated in
+    subst (λ t. judged t [] (header_stated c.args.version t) ≡ Refuses c.number.result) c.bytes.ensures (told.1 ∙ ap Refuses (sym c.number.ensures))
+
+pub returns-in-Some-clause-answer : goal.returns-in-Some-clause-answer
+returns-in-Some-clause-answer c =
+    let told = refused_header c.args.version c.bytes.result.now c.in-Err.fault c.in-Some.reason _ c.in-Err.is (sym c.of_header.ensures ∙ c.in-Some.is) c.read_header.ensures.stated in
+    rw c.number.ensures told.0.1

@@ -3,6 +3,7 @@ use Rattle.std.proofs.KnownBytes.{Consumes-trans}
 use Rattle.std.specs.Io.KnownBytes.{Consumes}
 use Rattle.ddr_text.specs.Opening.{with_feed, is_large}
 use Rattle.ddr_text.specs.Seen.{seen_role}
+use Rattle.ddr_text.specs.declared.reason.Reason.TheVariants.{FaultySeparator, HeaderTooLong}
 use Rattle.ddr_text.specs.Separator.{Ends, Faulty, Text, role_of_line}
 use Rattle.ddr_text.proofs.OpeningLines.{taken-start, continues-none, before-start, before-line, unopened, found_separator, faulty, too_much, continues-line, too_long, at_end, unended, within, taken-line}
 use Rattle.ddr_text.proofs.opening.read_front.Goals as goal
@@ -30,7 +31,7 @@ returns-in-Faulty-clause-front g c =
     let held = c.loop-reader.invariant in
     let is : role_of_line c.next_line.new.self.line ≡ Faulty = ap role_of_line (sym c.line-line.ensures) ∙ sym c.role_of.ensures ∙ ap seen_role c.in-Faulty.is in
     faulty _ _ _ c.loop-reader.text c.next_line.new.self.line c.faulty_reason.result held.continues (c.in-Text.ensures.found held.going_on) is
-    (c.faulty_reason.ensures.reason ∙ ap (λ l. if is_large (c.loop-reader.text ++ with_feed l) then 17 else 29) c.line-line.ensures)
+    (c.faulty_reason.ensures.reason ∙ ap (λ l. if is_large (c.loop-reader.text ++ with_feed l) then HeaderTooLong else FaultySeparator) c.line-line.ensures)
 
 pub returns-then-is_too_much-clause-front : goal.returns-then-is_too_much-clause-front
 returns-then-is_too_much-clause-front g c =

@@ -4,7 +4,7 @@ use Rattle.log_auditor.proofs.Parts.{judges_many, judges_read}
 use Rattle.log_auditor.proofs.report_reader.ReportReader.judge_line.Goals as goal
 
 pub returns-then-self-gt-MOST_LINES-clause-judged : goal.returns-then-self-gt-MOST_LINES-clause-judged
-returns-then-self-gt-MOST_LINES-clause-judged c = rw (← c.self.view_is) (judges_many _ c.if-self-gt-MOST_LINES.true)
+returns-then-self-gt-MOST_LINES-clause-judged c = rw (c.refuse.ensures, ← c.self.view_is) (judges_many _ c.if-self-gt-MOST_LINES.true)
 
 pub returns-in-Ok-clause-judged : goal.returns-in-Ok-clause-judged
 returns-in-Ok-clause-judged c =
@@ -16,4 +16,4 @@ pub returns-in-Err-clause-judged : goal.returns-in-Err-clause-judged
 returns-in-Err-clause-judged c =
     let fits : length c.self.inside.reader.line < 512 = rw (← c.self.view_is) at c.requires in
     let read = sym c.in-Err.is ∙ c.read_report_line.ensures ∙ ap (report_line_of c.self.inside.geometry) c.line.ensures in
-    rw (← c.self.view_is) (judges_read _ _ _ (Err c.in-Err.fault) c.if-self-gt-MOST_LINES.false fits read (rw c.reason_of.ensures (refl, refl)))
+    rw (← c.self.view_is) (judges_read _ _ _ (Err c.in-Err.fault) c.if-self-gt-MOST_LINES.false fits read (rw (c.refuse-in-Err.ensures, c.from.ensures) (refl, refl)))

@@ -23,14 +23,14 @@ returns-in-TooLong-clause-step g c =
     let last : c.self.inside.reader.last ≡ Text = ap (λ (p : Place). p.reader.last) c.self.view_is ∙ c.requires in
     let first : Place = record { reader = c.self.inside.reader; shape = c.self.inside.geometry; stage = c.self.inside.stage; number = c.self.inside.number } in
     let after : Place = record { reader = c.next_line.new.self; shape = c.self.inside.geometry; stage = c.self.inside.stage; number = c.self.inside.number } in
-    rw (← c.self.view_is, c.refuse.ensures) (step_long first after (next_bytes c.self.inside.reader.held (g.S.Source.left c.args.source.now)) (next_bytes c.next_line.new.self.held (g.S.Source.left c.next_line.new.source)) (next_bytes c.next_line.new.self.held (g.S.Source.left c.next_line.new.source)) c.next_line.new.self.line (c.in-TooLong.ensures.found last))
+    rw (← c.self.view_is, c.refuse_rest.ensures) (step_long first after (next_bytes c.self.inside.reader.held (g.S.Source.left c.args.source.now)) (next_bytes c.next_line.new.self.held (g.S.Source.left c.next_line.new.source)) (next_bytes c.next_line.new.self.held (g.S.Source.left c.next_line.new.source)) c.next_line.new.self.line (c.in-TooLong.ensures.found last))
 
 pub returns-in-Unended-clause-step : goal.returns-in-Unended-clause-step
 returns-in-Unended-clause-step g c =
     let last : c.self.inside.reader.last ≡ Text = ap (λ (p : Place). p.reader.last) c.self.view_is ∙ c.requires in
     let first : Place = record { reader = c.self.inside.reader; shape = c.self.inside.geometry; stage = c.self.inside.stage; number = c.self.inside.number } in
     let after : Place = record { reader = c.next_line.new.self; shape = c.self.inside.geometry; stage = c.self.inside.stage; number = c.self.inside.number } in
-    rw (← c.self.view_is, c.refuse-in-Unended.ensures) (step_unended first after (next_bytes c.self.inside.reader.held (g.S.Source.left c.args.source.now)) (next_bytes c.next_line.new.self.held (g.S.Source.left c.next_line.new.source)) (next_bytes c.next_line.new.self.held (g.S.Source.left c.next_line.new.source)) c.next_line.new.self.line (c.in-Unended.ensures.found last))
+    rw (← c.self.view_is, c.refuse_rest-in-Unended.ensures) (step_unended first after (next_bytes c.self.inside.reader.held (g.S.Source.left c.args.source.now)) (next_bytes c.next_line.new.self.held (g.S.Source.left c.next_line.new.source)) (next_bytes c.next_line.new.self.held (g.S.Source.left c.next_line.new.source)) c.next_line.new.self.line (c.in-Unended.ensures.found last))
 
 pub returns-in-End-clause-step : goal.returns-in-End-clause-step
 returns-in-End-clause-step g c =
