@@ -1,4 +1,3 @@
-pub mod Parts
 pub mod Texts
 pub mod Read
 pub mod Bytes

@@ -9,7 +9,7 @@ use Rattle.ddr_text.specs.Spelling.{report_text, spelled}
 use Rattle.ddr_text.specs.declared.lines.ReportLine.{ReportLine}
 use Rattle.log_auditor.specs.Reading.{Lines, behind_line, is_whole, judged_line, judged_rest, lines_in, stage_after, stage_behind}
 use Rattle.log_auditor.specs.declared.report_reader.Stage.{Stage}
-use Rattle.audited_reports.proofs.Parts.{first-part, line-part}
+use Rattle.ddr_text.proofs.CleanParts.{first-part, line-part}
 use Rattle.audited_reports.proofs.Texts.{text-fits}
 
 -- Each line is within its ranges and may stand where it stands, from this stage on, and the report may end behind the last.

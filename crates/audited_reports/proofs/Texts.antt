@@ -24,7 +24,7 @@ use Rattle.ddr_text.specs.declared.lines.ReportLine.{ReportLine}
 use Rattle.ddr_text.specs.declared.lines.ReportLine.TheVariants.{Issued, Value, Flip, Stat, End, Refused}
 use Rattle.ddr_text.specs.declared.lines.StatName.{StatName}
 use Rattle.ddr_text.specs.declared.lines.StatName.TheVariants.{Act as ActName, Rd as RdName, Wr as WrName, Pre, RefAb as RefAbName, RefSb as RefSbName, RfmAb as RfmAbName, RfmSb as RfmSbName, Ecs as EcsName, Alert, Peak, Found, Lost, Worst}
-use Rattle.audited_reports.proofs.Parts.{HasNoFeed}
+use Rattle.ddr_text.proofs.CleanParts.{HasNoFeed}
 
 -- no byte is a line feed, and there are at most so many
 pub record Fits (most : ℕ) (text : List ℕ) : Type 0 where

@@ -1,7 +1,7 @@
 //! A law: an audit finds nothing in a report that a replay has finished.
 #![tactic(auto)]
 
-ghost use Rattle.std.specs.Prelude.{◌≡◌, ℕ, Option, Some, List, ◌++◌};
+ghost use Rattle.std.specs.Prelude.{◌≡◌, ℕ, Option, Some, List};
 ghost use Rattle.std.specs.List.{flat_map};
 ghost use Rattle.ddr_io.specs.declared.status.Status.{Status};
 ghost use Rattle.ddr_text.specs.Opening.{Accepts, opening_of};
@@ -17,12 +17,6 @@ ghost use Rattle.audited_reports.specs.Audited.{IsAuditedOk, IsTold, IsWithinLim
 /// The header that opens a job is accepted: its numbers are within their ranges and the checks hold.
 pub fn opened_header_is_accepted()
     ensures accepted { (h : Header) (job text rest : List ℕ) → opening_of job ≡ Accepts h text rest → IsAccepted h }
-{}
-
-/// The opening of a job opens the same way whatever bytes it begins: with the same header and text, and these bytes behind it.
-pub fn opening_opens_again()
-    ensures opens { (h : Header) (job text rest more : List ℕ) → opening_of job ≡ Accepts h text rest
-        → opening_of (text ++ more) ≡ Accepts h text more }
 {}
 
 /// Every finished report of a job is audited Ok: the bytes that a replay writes of a job whose opening is accepted and

@@ -1,5 +1,7 @@
 mod Cuts
 mod Decoded
+mod HexBytes
+pub mod LineParts
 mod LowerHex
 mod Names
 mod Numerals

@@ -17,36 +17,7 @@ use Rattle.ddr_text.specs.declared.reason.Reason.{Reason}
 use Rattle.ddr_text.specs.declared.reason.Reason.TheVariants.{FaultySeparator, HeaderTooLong, NoSeparator}
 use Rattle.ddr_text.specs.Separator.{Role, Ends, Faulty, Text as TextLine, role_of_line}
 use Rattle.speed_bin.specs.Version.{Figures}
-
--- ---- Parts
-
-not_feed : (x : ℕ) → x ≢ 10 → is_feed x ≡ false
-not_feed x other = ne_eqb x 10 other
-
-no_feeds : (xs : List ℕ) → HasNoFeed xs → All (λ x. is_feed x ≡ false) xs
-no_feeds xs clean = λ i d low. not_feed (get_or xs i d) (clean i d low)
-
--- bytes have a first part
-first_part : (xs : List ℕ) → (first : List ℕ) × (rest : List (List ℕ)) × (slice_split is_feed xs ≡ first ∷ rest)
-first_part [] = ([], [], refl)
-first_part (x ∷ xs) = go (is_feed x) refl (first_part xs)
-  where
-    go : (b : Bool) → is_feed x ≡ b → ((first : List ℕ) × (rest : List (List ℕ)) × (slice_split is_feed xs ≡ first ∷ rest))
-        → (first : List ℕ) × (rest : List (List ℕ)) × (slice_split is_feed (x ∷ xs) ≡ first ∷ rest)
-    go true e more = ([], slice_split is_feed xs, slice_split-cons_yes is_feed x xs e)
-    go false e more = (x ∷ more.0, more.1, slice_split-cons_no is_feed x xs e ∙ ap (onto_first x) more.2)
-
--- bytes without a line feed begin the first part
-long_part : (front xs : List ℕ) → HasNoFeed front → (first : List ℕ) × (rest : List (List ℕ)) × (slice_split is_feed (front ++ xs) ≡ (front ++ first) ∷ rest)
-long_part [] xs clean = first_part xs
-long_part (x ∷ front) xs clean =
-    let more = long_part front xs (All-tail (λ b. b ≢ 10) x front clean) in
-    (more.0, more.1, slice_split-cons_no is_feed x (front ++ xs) (not_feed x (All-head (λ b. b ≢ 10) x front clean)) ∙ ap (onto_first x) more.2)
-
--- the first line is a part
-line_part : (line rest : List ℕ) → HasNoFeed line → slice_split is_feed (with_feed line ++ rest) ≡ line ∷ slice_split is_feed rest
-line_part line rest clean =
-    ap (slice_split is_feed) (append_assoc line (10 ∷ []) rest) ∙ slice_split_at is_feed line 10 rest (no_feeds line clean) refl
+use Rattle.ddr_text.proofs.LineParts.{line_part, long, long_part, no_feeds, short}
 
 -- ---- What is left, behind the text so far
 
@@ -67,12 +38,6 @@ pub taken-start : (bytes : Option (List ℕ)) (text : List ℕ) → text ≡ [] 
 taken-start None text e = tt
 taken-start (Some bytes) text e = ap (λ t. t ++ bytes) (sym e)
 
-short : (line : List ℕ) → length line < 512 → is_long line ≡ false
-short line few = le-ltb 511 (length line) (omega (arith, few))
-
-long : (line : List ℕ) → 512 ≤ length line → is_long line ≡ true
-long line many = lt-ltb 511 (length line) (omega (arith, many))
-
 -- whatever follows this much of a header text is judged behind it
 abbrev pub GoesBefore : List ℕ → Type 0
 GoesBefore text = (more : List ℕ) → heading_in [] (parts_of (text ++ more)) ≡ heading_in text (parts_of more)
@@ -85,9 +50,8 @@ two_parts : (text line rest : List ℕ) → HasNoFeed line → length line < 512
     → heading_in text (parts_of (with_feed line ++ rest)) ≡ after_line text line (role_of_line line) (heading_in (text ++ with_feed line) (parts_of rest))
 unfolding parts_of
 two_parts text line rest clean few =
-    let next = first_part rest in
-    let split : slice_split is_feed (with_feed line ++ rest) ≡ line ∷ next.0 ∷ next.1 = line_part line rest clean ∙ ap (λ l. line ∷ l) next.2 in
-    rw (split, next.2, short line few) refl
+    let (next, parts, split, behind_it) = line_part line rest clean in
+    rw (split, behind_it, short line few) refl
 
 -- the text goes before with one line more
 pub before-line : (text line longer : List ℕ) → longer ≡ text ++ with_feed line → GoesBefore text → HasNoFeed line → length line < 512

@@ -8,9 +8,12 @@ use command_words::{Command, Geometry, Words, decode};
 use hex::FromHex;
 use ondie_ecc::ReadState;
 
-/// The 64 bytes of lower-case digits.
+/// The 64 bytes of 128 lower-case hexadecimal digits, byte 0 first.
+///
+/// # Errors
+/// `LineFault::Hex` for every other field.
 #[tactic(auto, unfolding(crate::specs::ReportGrammar::lower_bytes_of))]
-pub(crate) fn lower_bytes_of(field: &[u8]) -> Result<[u8; 64], LineFault>
+pub fn lower_bytes_of(field: &[u8]) -> Result<[u8; 64], LineFault>
     ensures { result ≡ lower_bytes_of 64 field.now }
 {
     if all_lower(field) {

@@ -1,4 +1,4 @@
-//! The fields of a line, and what a field spells.
+//! The fields of a line, which stand between single spaces, and what a field spells.
 ghost use Rattle.std.specs.Prelude.{◌≡◌, ◌<◌, ◌^◌, ◌∷◌, length, position, IfSome, option_copied};
 ghost use Rattle.command_words.specs.Geometry.{lines_of};
 ghost use Rattle.ddr_text.specs.Grammar.{is_space, fields_of, one_field, two_fields, three_fields, four_fields, number_of, below, bytes_of};
@@ -10,7 +10,7 @@ use command_words::{Geometry, LineAddr};
 use hex::FromHex;
 
 /// The first field of a text, and what follows its space, where there is one.
-pub(crate) fn cut(text: &[u8]) -> (&[u8], Option<&[u8]>)
+pub fn cut(text: &[u8]) -> (&[u8], Option<&[u8]>)
     ensures { fields_of text.now ≡ result.0.now ∷ fields_after (option_copied result.1) }
 {
     match first_space(text) {
@@ -28,7 +28,10 @@ fn first_space(text: &[u8]) -> Option<usize>
 }
 
 /// The one field that is left.
-pub(crate) fn one_field(rest: Option<&[u8]>) -> Result<&[u8], LineFault>
+///
+/// # Errors
+/// `LineFault::Fields` for none, or for more than one.
+pub fn one_field(rest: Option<&[u8]>) -> Result<&[u8], LineFault>
     ensures { seen_one result ≡ one_field (fields_after (option_copied rest.entry)) }
 {
     let Some(text) = rest else {
@@ -51,7 +54,10 @@ pub(crate) fn two_fields(rest: Option<&[u8]>) -> Result<(&[u8], &[u8]), LineFaul
 }
 
 /// The three fields that are left.
-pub(crate) fn three_fields(rest: Option<&[u8]>) -> Result<(&[u8], &[u8], &[u8]), LineFault>
+///
+/// # Errors
+/// `LineFault::Fields` for any other number of fields.
+pub fn three_fields(rest: Option<&[u8]>) -> Result<(&[u8], &[u8], &[u8]), LineFault>
     ensures { seen_three result ≡ three_fields (fields_after (option_copied rest.entry)) }
 {
     let (first, rest) = cut(rest.ok_or(LineFault::Fields)?);
@@ -143,8 +149,11 @@ fn with_digit(value: u64, digit: u8) -> Option<u64>
     }
 }
 
-/// The line with a number, where there is one.
-pub(crate) fn line_at(number: u64, g: Geometry) -> Result<LineAddr, LineFault>
+/// The line with this number, where the geometry has one.
+///
+/// # Errors
+/// `LineFault::Range` where it has none.
+pub fn line_at(number: u64, g: Geometry) -> Result<LineAddr, LineFault>
     ensures { result ≡ below (lines_of g) number }
 {
     let lines = g.lines();
@@ -156,7 +165,10 @@ pub(crate) fn line_at(number: u64, g: Geometry) -> Result<LineAddr, LineFault>
 }
 
 /// A small number, where it is below the limit.
-pub(crate) fn below(limit: u8, number: u64) -> Result<u8, LineFault>
+///
+/// # Errors
+/// `LineFault::Range` where it is not.
+pub fn below(limit: u8, number: u64) -> Result<u8, LineFault>
     ensures { result ≡ below limit number }
 {
     if number < u64::from(limit) {

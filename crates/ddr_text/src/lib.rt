@@ -1,9 +1,10 @@
 //! The lines of traces and reports, and the opening of a job.
 #![tactic(auto)]
 
-mod digits;
-mod fields;
+pub mod digits;
+pub mod fields;
 mod header_text;
+pub mod laws;
 mod lines;
 mod opening;
 #[cfg(test)]

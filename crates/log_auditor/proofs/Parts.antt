@@ -1,14 +1,12 @@
--- The parts of bytes, and the next line of a report in them.
-use Rattle.std.proofs.Common.{◌≡◌, ◌≢◌, ◌∙◌, ℕ, suc, ◌+◌, ◌<◌, ◌≤◌, Bool, true, false, if◌then◌else◌, nat_lt, List, [], ◌∷◌, ◌++◌, length, take, drop, get_or, refl, sym, ap, subst, arith, append_assoc, length-append, length-take-le, take-append-drop, Option, Some, None, Result, Ok, Err}
-use Rattle.std.specs.List.{All, slice_split, onto_first}
-use Rattle.std.proofs.lemmas.Bool.{ne_eqb, le-ltb, lt-ltb, ltb-false}
-use Rattle.std.proofs.lemmas.List.Splits.{slice_split_at, slice_split_none, slice_split-cons_yes, slice_split-cons_no}
-use Rattle.std.proofs.lemmas.List.Elements.{All-head, All-tail}
+-- The next line of a report.
+use Rattle.std.proofs.Common.{◌≡◌, ◌∙◌, ℕ, suc, ◌+◌, ◌<◌, ◌≤◌, Bool, true, false, if◌then◌else◌, nat_lt, List, [], ◌∷◌, length, refl, sym, ap, subst, arith, Option, Some, None, Result, Ok, Err}
+use Rattle.std.proofs.lemmas.Bool.{le-ltb, lt-ltb, ltb-false}
 use Rattle.command_words.specs.Geometry.{Shape}
-use Rattle.ddr_io.specs.Line.{HasNoFeed, IsNextLine, next_bytes}
+use Rattle.ddr_io.specs.Line.{IsNextLine, next_bytes}
 use Rattle.ddr_io.specs.Reading.{Reading as ReaderOfLines}
 use Rattle.ddr_io.specs.declared.line_reader.Line.TheVariants.{Text, End, TooLong, Unended}
-use Rattle.ddr_text.specs.Opening.{is_feed, parts_of, with_feed, is_long}
+use Rattle.ddr_text.specs.Opening.{parts_of, is_long}
+use Rattle.ddr_text.specs.Parts.{LinesAreParts}
 use Rattle.ddr_text.specs.AcceptedReport.{IsReportLine}
 use Rattle.ddr_text.specs.ReportGrammar.{report_line_of}
 use Rattle.ddr_text.specs.declared.lines.LineFault.{LineFault}
@@ -19,52 +17,14 @@ use Rattle.log_auditor.specs.declared.report_reader.Next.TheVariants.{Line as Li
 use Rattle.log_auditor.specs.declared.report_reader.Stage.{Stage}
 use Rattle.log_auditor.specs.declared.report_reader.TheConstants.{MOST_LINES}
 
--- ---- Parts
-
-not_feed : (x : ℕ) → x ≢ 10 → is_feed x ≡ false
-not_feed x other = ne_eqb x 10 other
-
-no_feeds : (xs : List ℕ) → HasNoFeed xs → All (λ x. is_feed x ≡ false) xs
-no_feeds xs clean = λ i d low. not_feed (get_or xs i d) (clean i d low)
-
--- bytes have a first part
-first_part : (xs : List ℕ) → (first : List ℕ) × (rest : List (List ℕ)) × (slice_split is_feed xs ≡ first ∷ rest)
-first_part [] = ([], [], refl)
-first_part (x ∷ xs) = go (is_feed x) refl (first_part xs)
-  where
-    go : (b : Bool) → is_feed x ≡ b → ((first : List ℕ) × (rest : List (List ℕ)) × (slice_split is_feed xs ≡ first ∷ rest))
-        → (first : List ℕ) × (rest : List (List ℕ)) × (slice_split is_feed (x ∷ xs) ≡ first ∷ rest)
-    go true e more = ([], slice_split is_feed xs, slice_split-cons_yes is_feed x xs e)
-    go false e more = (x ∷ more.0, more.1, slice_split-cons_no is_feed x xs e ∙ ap (onto_first x) more.2)
-
--- bytes without a line feed begin the first part
-long_part : (front xs : List ℕ) → HasNoFeed front → (first : List ℕ) × (rest : List (List ℕ)) × (slice_split is_feed (front ++ xs) ≡ (front ++ first) ∷ rest)
-long_part [] xs clean = first_part xs
-long_part (x ∷ front) xs clean =
-    let more = long_part front xs (All-tail (λ b. b ≢ 10) x front clean) in
-    (more.0, more.1, slice_split-cons_no is_feed x (front ++ xs) (not_feed x (All-head (λ b. b ≢ 10) x front clean)) ∙ ap (onto_first x) more.2)
-
--- the first line is a part
-line_part : (line rest : List ℕ) → HasNoFeed line → slice_split is_feed (with_feed line ++ rest) ≡ line ∷ slice_split is_feed rest
-line_part line rest clean =
-    ap (slice_split is_feed) (append_assoc line (10 ∷ []) rest) ∙ slice_split_at is_feed line 10 rest (no_feeds line clean) refl
-
-short : (line : List ℕ) → length line < 512 → is_long line ≡ false
-short line few = le-ltb 511 (length line) (omega (arith, few))
-
-long : (line : List ℕ) → 512 ≤ length line → is_long line ≡ true
-long line many = lt-ltb 511 (length line) (omega (arith, many))
-
 -- ---- The next line of a report
 
 -- the lines that are left begin with the next line
-line_left : (it : Place) (text rest : List ℕ) → HasNoFeed text → lines_left it (with_feed text ++ rest)
+line_left : LinesAreParts → (it : Place) (bytes rest text : List ℕ) → IsNextLine (Some bytes) (Some rest) text Text → lines_left it bytes
     ≡ behind_line it.number (judged_line it.shape it.stage it.number text) (lines_in it.shape (stage_behind it.stage (judged_line it.shape it.stage it.number text)) (suc it.number) (parts_of rest))
-unfolding parts_of
-line_left it text rest clean =
-    let next = first_part rest in
-    let split : slice_split is_feed (with_feed text ++ rest) ≡ text ∷ next.0 ∷ next.1 = line_part text rest clean ∙ ap (λ l. text ∷ l) next.2 in
-    rw (split, next.2) refl
+line_left law it bytes rest text found =
+    let (next, more, split, behind, fits) = law.line bytes rest text found in
+    rw (split, behind) refl
 
 number_next : (n : ℕ) → suc n ≡ n + 1
 number_next n = omega arith
@@ -87,16 +47,16 @@ reader_kept : (judged : Result Placed ℕ) (old new : Place) (next : Next) → J
 reader_kept (Ok found) old new next judges = ap (λ (p : Place). p.reader) (sym judges.1)
 reader_kept (Err reason) old new next judges = ap (λ (p : Place). p.reader) (sym judges.1)
 
-pub step_text : (it old new : Place) (before left : Option (List ℕ)) (next : Next) → old.shape ≡ it.shape → old.stage ≡ it.stage → old.number ≡ it.number
+pub step_text : LinesAreParts → (it old new : Place) (before left : Option (List ℕ)) (next : Next) → old.shape ≡ it.shape → old.stage ≡ it.stage → old.number ≡ it.number
     → IsNextLine before (next_bytes old.reader.held left) old.reader.line Text → Judges (judged_line it.shape it.stage it.number old.reader.line) old new next → IsStep it new before (next_bytes new.reader.held left) next
-step_text it old new before left next a b c found judges =
+step_text law it old new before left next a b c found judges =
     subst (λ (r : ReaderOfLines). IsStep it new before (next_bytes r.held left) next) (reader_kept (judged_line it.shape it.stage it.number old.reader.line) old new next judges) (go before (next_bytes old.reader.held left) found)
   where
     go : (xs ys : Option (List ℕ)) → IsNextLine xs ys old.reader.line Text → IsStep it new xs ys next
     go None ys found = tt
     go (Some bytes) None found = absurd found.2
     go (Some bytes) (Some rest) found =
-        judged_step it old new (judged_line it.shape it.stage it.number old.reader.line) bytes rest next a b c (ap (lines_left it) found.2 ∙ line_left it old.reader.line rest found.1) judges
+        judged_step it old new (judged_line it.shape it.stage it.number old.reader.line) bytes rest next a b c (line_left law it bytes rest old.reader.line found) judges
 
 -- ---- What is known of a line in its place
 
@@ -149,7 +109,7 @@ pub judges_read : (it new : Place) (next : Next) (read : Result ReportLine LineF
 unfolding judged_line
 judges_read it new next read few fits is judges =
     let t = le-ltb MOST_LINES it.number few in
-    let u = short it.reader.line fits in
+    let u : is_long it.reader.line ≡ false = le-ltb 511 (length it.reader.line) (omega (arith, fits)) in
     rw (t, u, ← is) judges
 
 -- ---- No line more
@@ -158,10 +118,10 @@ judges_read it new next read few fits is judges =
 abbrev many : ℕ → ℕ → ℕ
 many number reason = if nat_lt MOST_LINES number then 9 else reason
 
-rest_long : (stage : Stage) (number : ℕ) (part : List ℕ) → 1 ≤ length part → is_long part ≡ true → judged_rest stage number part ≡ Some (many number 7)
+rest_long : (stage : Stage) (number : ℕ) (part : List ℕ) → is_long part ≡ true → judged_rest stage number part ≡ Some (many number 7)
 unfolding judged_rest
-rest_long stage number [] some is = absurd (omega arith)
-rest_long stage number (byte ∷ bytes) some is = rw is refl
+rest_long stage number [] is = absurd cc
+rest_long stage number (byte ∷ bytes) is = rw is refl
 
 rest_short : (stage : Stage) (number : ℕ) (part : List ℕ) → 1 ≤ length part → is_long part ≡ false → judged_rest stage number part ≡ Some (many number 8)
 unfolding judged_rest
@@ -176,39 +136,35 @@ line_long g stage number text is = go (nat_lt MOST_LINES number) refl
     go true e = rw e refl
     go false e = rw (e, is) refl
 
-long_first : (it : Place) (part : List ℕ) (parts : List (List ℕ)) → 1 ≤ length part → is_long part ≡ true → lines_in it.shape it.stage it.number (part ∷ parts) ≡ record { lines = []; refusal = refusal_at it.number (Some (many it.number 7)) }
-long_first it part [] some is = ap (λ r. record { lines = []; refusal = refusal_at it.number r }) (rest_long it.stage it.number part some is)
-long_first it part (next ∷ parts) some is =
+long_first : (it : Place) (part : List ℕ) (parts : List (List ℕ)) → is_long part ≡ true → lines_in it.shape it.stage it.number (part ∷ parts) ≡ record { lines = []; refusal = refusal_at it.number (Some (many it.number 7)) }
+long_first it part [] is = ap (λ r. record { lines = []; refusal = refusal_at it.number r }) (rest_long it.stage it.number part is)
+long_first it part (next ∷ parts) is =
     let judged = line_long it.shape it.stage it.number part is in
     rw judged refl
 
-pub step_long : (it new : Place) (before after later : Option (List ℕ)) (text : List ℕ) → IsNextLine before after text TooLong → IsStep it new before later (RefusedNext it.number (many it.number 7))
-unfolding parts_of
-step_long it new None after later text found = tt
-step_long it new (Some bytes) after later text found =
-    let more = long_part (take 512 bytes) (drop 512 bytes) found.0.1 in
-    let split : slice_split is_feed bytes ≡ (take 512 bytes ++ more.0) ∷ more.1 = ap (slice_split is_feed) (sym (take-append-drop 512 bytes)) ∙ more.2 in
-    let front : length (take 512 bytes) ≡ 512 = length-take-le 512 bytes found.0.0 in
-    let many : 512 ≤ length (take 512 bytes ++ more.0) = omega (arith, front, length-append (take 512 bytes) more.0) in
-    ap (lines_in it.shape it.stage it.number) split ∙ long_first it (take 512 bytes ++ more.0) more.1 (omega (arith, many)) (long (take 512 bytes ++ more.0) many)
+pub step_long : LinesAreParts → (it new : Place) (before after later : Option (List ℕ)) (text : List ℕ) → IsNextLine before after text TooLong → IsStep it new before later (RefusedNext it.number (many it.number 7))
+step_long law it new None after later text found = tt
+step_long law it new (Some bytes) after later text found =
+    let (part, more, split, is) = law.too_long bytes text after found in
+    ap (lines_in it.shape it.stage it.number) split ∙ long_first it part more is
 
-pub step_unended : (it new : Place) (before after later : Option (List ℕ)) (text : List ℕ) → IsNextLine before after text Unended → IsStep it new before later (RefusedNext it.number (many it.number 8))
-unfolding parts_of
-step_unended it new None after later text found = tt
-step_unended it new (Some bytes) after later text found =
-    ap (lines_in it.shape it.stage it.number) (slice_split_none is_feed bytes (no_feeds bytes found.0.2))
-    ∙ ap (λ r. record { lines = []; refusal = refusal_at it.number r }) (rest_short it.stage it.number bytes found.0.0 (short bytes found.0.1))
+pub step_unended : LinesAreParts → (it new : Place) (before after later : Option (List ℕ)) (text : List ℕ) → IsNextLine before after text Unended → IsStep it new before later (RefusedNext it.number (many it.number 8))
+step_unended law it new None after later text found = tt
+step_unended law it new (Some bytes) after later text found =
+    let (split, some, is) = law.unended bytes text after found in
+    ap (lines_in it.shape it.stage it.number) split
+    ∙ ap (λ r. record { lines = []; refusal = refusal_at it.number r }) (rest_short it.stage it.number bytes some is)
 
 -- what the end is
 abbrev pub end_next : Bool → ℕ → Next
 end_next whole number = if whole then EndNext else RefusedNext number 19
 
-at_end : (it new : Place) (whole : Bool) (bytes after : List ℕ) → bytes ≡ [] → after ≡ [] → is_whole it.stage ≡ whole → IsStep it new (Some bytes) (Some after) (end_next whole it.number)
-unfolding parts_of judged_rest
+at_end : (it new : Place) (whole : Bool) (bytes after : List ℕ) → parts_of bytes ≡ [] ∷ [] → after ≡ [] → is_whole it.stage ≡ whole → IsStep it new (Some bytes) (Some after) (end_next whole it.number)
+unfolding judged_rest
 at_end it new true bytes after none all e = (ap Some all, rw (none, e) refl)
 at_end it new false bytes after none all e = rw (none, e) refl
 
-pub step_end : (it new : Place) (before after : Option (List ℕ)) (text : List ℕ) → IsNextLine before after text End → IsStep it new before after (end_next (is_whole it.stage) it.number)
-step_end it new None after text found = tt
-step_end it new (Some bytes) None text found = absurd found.1
-step_end it new (Some bytes) (Some left) text found = at_end it new (is_whole it.stage) bytes left found.0 (found.1 ∙ found.0) refl
+pub step_end : LinesAreParts → (it new : Place) (before after : Option (List ℕ)) (text : List ℕ) → IsNextLine before after text End → IsStep it new before after (end_next (is_whole it.stage) it.number)
+step_end law it new None after text found = tt
+step_end law it new (Some bytes) None text found = absurd found.1
+step_end law it new (Some bytes) (Some left) text found = at_end it new (is_whole it.stage) bytes left (law.at_end bytes text (Some left) found) (found.1 ∙ found.0) refl

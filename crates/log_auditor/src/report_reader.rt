@@ -102,6 +102,7 @@ impl ReportReader {
         // Any other answer leaves the count: no failed read is tried again.
         ensures kept { result ≢ Next.Failed → S.faults source.new ≡ S.faults source.old }
     {
+        ddr_text::laws::lines_are_parts();
         match self.reader.next_line(source) {
             Line::Text => self.judge_line(),
             Line::TooLong => self.refuse_rest(Reason::LineTooLong),

@@ -274,6 +274,7 @@ pub fn reads_lines_inside()
     ensures inside { (g : Shape) (text : List ℕ) (line : TraceLine) → trace_line_of g text ≡ Ok line → IsInside g line }
 {
     ddr_text::trace_grammar();
+    ddr_text::laws::hex_gives_bytes();
 }
 
 /// What a controller chooses for its waiting requests serves them: an RD or WR the oldest one that lies in the open row of

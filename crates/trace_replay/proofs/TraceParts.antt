@@ -1,15 +1,12 @@
 -- The trace of a job, line by line.
-use Rattle.std.proofs.Common.{◌≡◌, ◌≢◌, ℕ, ◌+◌, ◌<◌, ◌≤◌, Bool, true, false, if◌then◌else◌, List, [], ◌∷◌, ◌++◌, length, take, drop, get_or, refl, sym, ap, ◌∙◌, arith, append_assoc, length-append, length-take-le, take-append-drop, Option, Some, None, IfSome, Result, Ok, Err}
-use Rattle.std.specs.List.{All, slice_split, onto_first}
-use Rattle.std.proofs.lemmas.Bool.{ne_eqb, le-ltb, lt-ltb}
-use Rattle.std.proofs.lemmas.List.Splits.{slice_split_at, slice_split_none, slice_split-cons_yes, slice_split-cons_no}
-use Rattle.std.proofs.lemmas.List.Elements.{All-head, All-tail}
+use Rattle.std.proofs.Common.{◌≡◌, ℕ, ◌+◌, ◌<◌, ◌≤◌, Bool, true, false, if◌then◌else◌, List, [], ◌∷◌, ◌++◌, length, refl, sym, ap, ◌∙◌, arith, Option, Some, None, IfSome, Result, Ok, Err}
 use Rattle.command_words.specs.Geometry.{Shape}
 use Rattle.ddr_io.specs.Line.{HasNoFeed, IsNextLine}
 use Rattle.ddr_io.specs.declared.line_reader.Line.TheVariants.{Text, End as EndLine, TooLong, Unended}
 use Rattle.ddr_text.specs.Accepted.{IsTraceLine}
 use Rattle.ddr_text.specs.Grammar.{trace_line_of}
-use Rattle.ddr_text.specs.Opening.{is_feed, parts_of, with_feed, is_long}
+use Rattle.ddr_text.specs.Opening.{parts_of, with_feed, is_long}
+use Rattle.ddr_text.specs.Parts.{LinesAreParts}
 use Rattle.ddr_text.specs.declared.lines.TraceLine.{TraceLine}
 use Rattle.ddr_text.specs.declared.lines.TraceLine.TheVariants.{Read, Write, Flip, Idle}
 use Rattle.trace_replay.specs.Job.{MOST, clocks_of, trace_from, with_text, with_part, if_read, is_full, continued, extended, at_end, refused_behind}
@@ -17,85 +14,46 @@ use Rattle.trace_replay.specs.Reading.{Continues, Ends, IsMore, HasBytes}
 use Rattle.reports.specs.Delivered.{IsInside}
 use Rattle.trace_replay.specs.declared.trace_lines.Tally.{Tally}
 
--- ---- Parts
-
-pub not_feed : (x : ℕ) → x ≢ 10 → is_feed x ≡ false
-not_feed x other = ne_eqb x 10 other
-
-pub no_feeds : (xs : List ℕ) → HasNoFeed xs → All (λ x. is_feed x ≡ false) xs
-no_feeds xs clean = λ i d low. not_feed (get_or xs i d) (clean i d low)
-
--- bytes have a first part
-first_part : (xs : List ℕ) → (first : List ℕ) × (rest : List (List ℕ)) × (slice_split is_feed xs ≡ first ∷ rest)
-first_part [] = ([], [], refl)
-first_part (x ∷ xs) = go (is_feed x) refl (first_part xs)
-  where
-    go : (b : Bool) → is_feed x ≡ b → ((first : List ℕ) × (rest : List (List ℕ)) × (slice_split is_feed xs ≡ first ∷ rest))
-        → (first : List ℕ) × (rest : List (List ℕ)) × (slice_split is_feed (x ∷ xs) ≡ first ∷ rest)
-    go true e more = ([], slice_split is_feed xs, slice_split-cons_yes is_feed x xs e)
-    go false e more = (x ∷ more.0, more.1, slice_split-cons_no is_feed x xs e ∙ ap (onto_first x) more.2)
-
--- bytes without a line feed begin the first part
-long_part : (front xs : List ℕ) → HasNoFeed front → (first : List ℕ) × (rest : List (List ℕ)) × (slice_split is_feed (front ++ xs) ≡ (front ++ first) ∷ rest)
-long_part [] xs clean = first_part xs
-long_part (x ∷ front) xs clean =
-    let more = long_part front xs (All-tail (λ b. b ≢ 10) x front clean) in
-    (more.0, more.1, slice_split-cons_no is_feed x (front ++ xs) (not_feed x (All-head (λ b. b ≢ 10) x front clean)) ∙ ap (onto_first x) more.2)
-
--- the first line is a part
-line_part : (line rest : List ℕ) → HasNoFeed line → slice_split is_feed (with_feed line ++ rest) ≡ line ∷ slice_split is_feed rest
-line_part line rest clean =
-    ap (slice_split is_feed) (append_assoc line (10 ∷ []) rest) ∙ slice_split_at is_feed line 10 rest (no_feeds line clean) refl
-
-short : (line : List ℕ) → length line < 512 → is_long line ≡ false
-short line few = le-ltb 511 (length line) (omega (arith, few))
-
-long : (line : List ℕ) → 512 ≤ length line → is_long line ≡ true
-long line many = lt-ltb 511 (length line) (omega (arith, many))
-
 -- ---- One line
 
 if_short : (g : Shape) (trace : List TraceLine) (line : List ℕ) → is_long line ≡ false → with_part g trace line ≡ with_text g trace line
 if_short g trace line is = ap (λ b. if is_full trace then Err 9 else if b then Err 7 else if_read trace (trace_line_of g line)) is
 
-line_step : (g : Shape) (trace : List TraceLine) (line rest : List ℕ) → HasNoFeed line → length line < 512
-    → trace_from g trace (parts_of (with_feed line ++ rest)) ≡ continued trace (with_text g trace line) (λ longer. trace_from g longer (parts_of rest))
-unfolding parts_of
-line_step g trace line rest clean few =
-    let next = first_part rest in
-    let split : slice_split is_feed (with_feed line ++ rest) ≡ line ∷ next.0 ∷ next.1 = line_part line rest clean ∙ ap (λ l. line ∷ l) next.2 in
+line_step : LinesAreParts → (g : Shape) (trace : List TraceLine) (bytes rest line : List ℕ) → IsNextLine (Some bytes) (Some rest) line Text
+    → trace_from g trace (parts_of bytes) ≡ continued trace (with_text g trace line) (λ longer. trace_from g longer (parts_of rest))
+line_step law g trace bytes rest line found =
+    let (next, more, split, behind, fits) = law.line bytes rest line found in
     ap (trace_from g trace) split
-    ∙ ap (λ r. continued trace r (λ longer. trace_from g longer (next.0 ∷ next.1))) (if_short g trace line (short line few))
-    ∙ ap (λ l. continued trace (with_text g trace line) (λ longer. trace_from g longer l)) (sym next.2)
+    ∙ ap (λ r. continued trace r (λ longer. trace_from g longer (next ∷ more))) (if_short g trace line fits)
+    ∙ ap (λ l. continued trace (with_text g trace line) (λ longer. trace_from g longer l)) (sym behind)
 
 -- the next line is judged so
-step : (g : Shape) (trace : List TraceLine) (bytes rest line : List ℕ) (answer : Result TraceLine ℕ) → IsNextLine (Some bytes) (Some rest) line Text
+step : LinesAreParts → (g : Shape) (trace : List TraceLine) (bytes rest line : List ℕ) (answer : Result TraceLine ℕ) → IsNextLine (Some bytes) (Some rest) line Text
     → extended trace answer ≡ with_text g trace line → trace_from g trace (parts_of bytes) ≡ continued trace (extended trace answer) (λ longer. trace_from g longer (parts_of rest))
-step g trace bytes rest line answer next is =
-    ap (λ l. trace_from g trace (parts_of l)) next.2 ∙ line_step g trace line rest next.1 next.0
+step law g trace bytes rest line answer next is =
+    line_step law g trace bytes rest line next
     ∙ ap (λ r. continued trace r (λ longer. trace_from g longer (parts_of rest))) (sym is)
 
 -- whatever follows the line
-step_more : (g : Shape) (trace : List TraceLine) (more line : List ℕ) (served : TraceLine) (answer : Result TraceLine ℕ) → HasNoFeed line → length line < 512 → answer ≡ Ok served
+step_more : LinesAreParts → (g : Shape) (trace : List TraceLine) (more line : List ℕ) (served : TraceLine) (answer : Result TraceLine ℕ) → HasNoFeed line → length line < 512 → answer ≡ Ok served
     → extended trace answer ≡ with_text g trace line → trace_from g trace (parts_of (with_feed line ++ more)) ≡ trace_from g (trace ++ served ∷ []) (parts_of more)
-step_more g trace more line served answer clean few found is =
-    line_step g trace line more clean few
-    ∙ ap (λ r. continued trace r (λ longer. trace_from g longer (parts_of more))) (sym is)
+step_more law g trace more line served answer clean few found is =
+    step law g trace (with_feed line ++ more) more line answer (few, clean, refl) is
     ∙ ap (λ a. continued trace (extended trace a) (λ longer. trace_from g longer (parts_of more))) found
 
-pub next_served : (g : Shape) (trace : List TraceLine) (old new : Option (List ℕ)) (line : List ℕ) (served : TraceLine) (answer : Result TraceLine ℕ) → IsNextLine old new line Text
+pub next_served : LinesAreParts → (g : Shape) (trace : List TraceLine) (old new : Option (List ℕ)) (line : List ℕ) (served : TraceLine) (answer : Result TraceLine ℕ) → IsNextLine old new line Text
     → answer ≡ Ok served → extended trace answer ≡ with_text g trace line → Continues g trace old (trace ++ served ∷ []) new
-next_served g trace None new line served answer next found is = tt
-next_served g trace (Some bytes) None line served answer next found is = absurd next.2
-next_served g trace (Some bytes) (Some rest) line served answer next found is =
-    (with_feed line, next.2, λ more. step_more g trace more line served answer next.1 next.0 found is)
+next_served law g trace None new line served answer next found is = tt
+next_served law g trace (Some bytes) None line served answer next found is = absurd next.2
+next_served law g trace (Some bytes) (Some rest) line served answer next found is =
+    (with_feed line, next.2, λ more. step_more law g trace more line served answer next.1 next.0 found is)
 
-pub next_refused : (g : Shape) (trace : List TraceLine) (old new : Option (List ℕ)) (line : List ℕ) (reason : ℕ) (answer : Result TraceLine ℕ) → IsNextLine old new line Text
+pub next_refused : LinesAreParts → (g : Shape) (trace : List TraceLine) (old new : Option (List ℕ)) (line : List ℕ) (reason : ℕ) (answer : Result TraceLine ℕ) → IsNextLine old new line Text
     → answer ≡ Err reason → extended trace answer ≡ with_text g trace line → IfSome old (λ bytes. trace_from g trace (parts_of bytes) ≡ refused_behind trace reason)
-next_refused g trace None new line reason answer next found is = tt
-next_refused g trace (Some bytes) None line reason answer next found is = absurd next.2
-next_refused g trace (Some bytes) (Some rest) line reason answer next found is =
-    step g trace bytes rest line answer next is ∙ ap (λ a. continued trace (extended trace a) (λ longer. trace_from g longer (parts_of rest))) found
+next_refused law g trace None new line reason answer next found is = tt
+next_refused law g trace (Some bytes) None line reason answer next found is = absurd next.2
+next_refused law g trace (Some bytes) (Some rest) line reason answer next found is =
+    step law g trace bytes rest line answer next is ∙ ap (λ a. continued trace (extended trace a) (λ longer. trace_from g longer (parts_of rest))) found
 
 -- ---- No line
 
@@ -111,36 +69,32 @@ long_reason : (trace : List TraceLine) (full : Bool) (r : Result (List TraceLine
 long_reason trace true r go_on = refl
 long_reason trace false r go_on = refl
 
-some_long : (g : Shape) (trace : List TraceLine) (part : List ℕ) (rest : List (List ℕ)) → 512 ≤ length part → trace_from g trace (part ∷ rest) ≡ refused_behind trace (if is_full trace then 9 else 7)
-some_long g trace part [] many =
-    last_part trace part (omega (arith, many)) ∙ ap (λ b. refused_behind trace (rest_reason (is_full trace) b)) (long part many)
-some_long g trace part (next ∷ rest) many =
-    ap (λ b. continued trace (if is_full trace then Err 9 else if b then Err 7 else if_read trace (trace_line_of g part)) (λ longer. trace_from g longer (next ∷ rest))) (long part many)
+some_long : (g : Shape) (trace : List TraceLine) (part : List ℕ) (rest : List (List ℕ)) → is_long part ≡ true → trace_from g trace (part ∷ rest) ≡ refused_behind trace (if is_full trace then 9 else 7)
+some_long g trace [] [] long = absurd cc
+some_long g trace (byte ∷ bytes) [] long = ap (λ b. refused_behind trace (rest_reason (is_full trace) b)) long
+some_long g trace part (next ∷ rest) long =
+    ap (λ b. continued trace (if is_full trace then Err 9 else if b then Err 7 else if_read trace (trace_line_of g part)) (λ longer. trace_from g longer (next ∷ rest))) long
     ∙ long_reason trace (is_full trace) (Err 7) (λ longer. trace_from g longer (next ∷ rest))
 
-pub next_too_long : (g : Shape) (trace : List TraceLine) (old new : Option (List ℕ)) (line : List ℕ) (reason : ℕ) → IsNextLine old new line TooLong → reason ≡ (if is_full trace then 9 else 7)
+pub next_too_long : LinesAreParts → (g : Shape) (trace : List TraceLine) (old new : Option (List ℕ)) (line : List ℕ) (reason : ℕ) → IsNextLine old new line TooLong → reason ≡ (if is_full trace then 9 else 7)
     → IfSome old (λ bytes. trace_from g trace (parts_of bytes) ≡ refused_behind trace reason)
-unfolding parts_of
-next_too_long g trace None new line reason next is = tt
-next_too_long g trace (Some bytes) new line reason next is =
-    let found = long_part (take 512 bytes) (drop 512 bytes) next.0.1 in
-    let front : length (take 512 bytes) ≡ 512 = length-take-le 512 bytes next.0.0 in
-    ap (λ l. trace_from g trace (slice_split is_feed l)) (sym (take-append-drop 512 bytes)) ∙ ap (trace_from g trace) found.2
-    ∙ some_long g trace (take 512 bytes ++ found.0) found.1 (omega (arith, front, length-append (take 512 bytes) found.0)) ∙ ap (refused_behind trace) (sym is)
+next_too_long law g trace None new line reason next is = tt
+next_too_long law g trace (Some bytes) new line reason next is =
+    let (part, more, split, long) = law.too_long bytes line new next in
+    ap (trace_from g trace) split ∙ some_long g trace part more long ∙ ap (refused_behind trace) (sym is)
 
-pub next_unended : (g : Shape) (trace : List TraceLine) (old new : Option (List ℕ)) (line : List ℕ) (reason : ℕ) → IsNextLine old new line Unended → reason ≡ (if is_full trace then 9 else 8)
+pub next_unended : LinesAreParts → (g : Shape) (trace : List TraceLine) (old new : Option (List ℕ)) (line : List ℕ) (reason : ℕ) → IsNextLine old new line Unended → reason ≡ (if is_full trace then 9 else 8)
     → IfSome old (λ bytes. trace_from g trace (parts_of bytes) ≡ refused_behind trace reason)
-unfolding parts_of
-next_unended g trace None new line reason next is = tt
-next_unended g trace (Some bytes) new line reason next is =
-    ap (trace_from g trace) (slice_split_none is_feed bytes (no_feeds bytes next.0.2)) ∙ last_part trace bytes next.0.0
-    ∙ ap (λ b. refused_behind trace (rest_reason (is_full trace) b)) (short bytes next.0.1) ∙ ap (refused_behind trace) (sym is)
+next_unended law g trace None new line reason next is = tt
+next_unended law g trace (Some bytes) new line reason next is =
+    let (split, some, fits) = law.unended bytes line new next in
+    ap (trace_from g trace) split ∙ last_part trace bytes some
+    ∙ ap (λ b. refused_behind trace (rest_reason (is_full trace) b)) fits ∙ ap (refused_behind trace) (sym is)
 
-pub next_end : (g : Shape) (trace : List TraceLine) (old new : Option (List ℕ)) (line : List ℕ) → IsNextLine old new line EndLine → Ends g trace old new
-unfolding parts_of
-next_end g trace None new line next = tt
-next_end g trace (Some bytes) None line next = absurd next.1
-next_end g trace (Some bytes) (Some rest) line next = (ap (λ l. trace_from g trace (slice_split is_feed l)) next.0, ap Some (next.1 ∙ next.0))
+pub next_end : LinesAreParts → (g : Shape) (trace : List TraceLine) (old new : Option (List ℕ)) (line : List ℕ) → IsNextLine old new line EndLine → Ends g trace old new
+next_end law g trace None new line next = tt
+next_end law g trace (Some bytes) None line next = absurd next.1
+next_end law g trace (Some bytes) (Some rest) line next = (ap (trace_from g trace) (law.at_end bytes line (Some rest) next), ap Some (next.1 ∙ next.0))
 
 -- ---- A line more
 

@@ -30,7 +30,7 @@ use Rattle.ddr_io.specs.declared.line_reader.Line.{Line}
 use Rattle.trace_replay.specs.declared.trace_lines.Tally.{Tally}
 use Rattle.trace_replay.specs.declared.trace_lines.Next.{Next}
 use Rattle.trace_replay.specs.declared.trace_lines.Next.TheVariants.{Found, End as NoLine, Refused as RefusedLine}
-use Rattle.trace_replay.proofs.TraceParts.{no_feeds}
+use Rattle.ddr_text.proofs.LineParts.{no_feeds}
 
 -- ---- Bytes
 

@@ -57,6 +57,7 @@ pub(crate) fn next_line<S: Source>(
     ensures kept { OnOk result (S.faults source.new ≡ S.faults source.old) }
     ensures cause { IfErr result (ReadCause (S.faults source.old) (S.faults source.new)) }
 {
+    ddr_text::laws::lines_are_parts();
     match reader.next_line(source) {
         Line::Text => match judged(tally, reader.line(), g) {
             Ok(line) => Ok(Next::Found(line)),

@@ -10,7 +10,7 @@ returns-in-Text-clause-step g c =
     let last : c.self.inside.reader.last ≡ Text = ap (λ (p : Place). p.reader.last) c.self.view_is ∙ c.requires in
     let first : Place = record { reader = c.self.inside.reader; shape = c.self.inside.geometry; stage = c.self.inside.stage; number = c.self.inside.number } in
     let after : Place = record { reader = c.next_line.new.self; shape = c.self.inside.geometry; stage = c.self.inside.stage; number = c.self.inside.number } in
-    rw (← c.self.view_is) (step_text first after c.judge_line.new.self (next_bytes c.self.inside.reader.held (g.S.Source.left c.args.source.now)) (g.S.Source.left c.next_line.new.source) c.judge_line.result refl refl refl (c.in-Text.ensures.found last) c.judge_line.ensures.judged)
+    rw (← c.self.view_is) (step_text c.lines_are_parts.ensures first after c.judge_line.new.self (next_bytes c.self.inside.reader.held (g.S.Source.left c.args.source.now)) (g.S.Source.left c.next_line.new.source) c.judge_line.result refl refl refl (c.in-Text.ensures.found last) c.judge_line.ensures.judged)
 
 pub returns-in-Text-clause-line : goal.returns-in-Text-clause-line
 returns-in-Text-clause-line g c = λ line is.
@@ -23,18 +23,18 @@ returns-in-TooLong-clause-step g c =
     let last : c.self.inside.reader.last ≡ Text = ap (λ (p : Place). p.reader.last) c.self.view_is ∙ c.requires in
     let first : Place = record { reader = c.self.inside.reader; shape = c.self.inside.geometry; stage = c.self.inside.stage; number = c.self.inside.number } in
     let after : Place = record { reader = c.next_line.new.self; shape = c.self.inside.geometry; stage = c.self.inside.stage; number = c.self.inside.number } in
-    rw (← c.self.view_is, c.refuse_rest.ensures) (step_long first after (next_bytes c.self.inside.reader.held (g.S.Source.left c.args.source.now)) (next_bytes c.next_line.new.self.held (g.S.Source.left c.next_line.new.source)) (next_bytes c.next_line.new.self.held (g.S.Source.left c.next_line.new.source)) c.next_line.new.self.line (c.in-TooLong.ensures.found last))
+    rw (← c.self.view_is, c.refuse_rest.ensures) (step_long c.lines_are_parts.ensures first after (next_bytes c.self.inside.reader.held (g.S.Source.left c.args.source.now)) (next_bytes c.next_line.new.self.held (g.S.Source.left c.next_line.new.source)) (next_bytes c.next_line.new.self.held (g.S.Source.left c.next_line.new.source)) c.next_line.new.self.line (c.in-TooLong.ensures.found last))
 
 pub returns-in-Unended-clause-step : goal.returns-in-Unended-clause-step
 returns-in-Unended-clause-step g c =
     let last : c.self.inside.reader.last ≡ Text = ap (λ (p : Place). p.reader.last) c.self.view_is ∙ c.requires in
     let first : Place = record { reader = c.self.inside.reader; shape = c.self.inside.geometry; stage = c.self.inside.stage; number = c.self.inside.number } in
     let after : Place = record { reader = c.next_line.new.self; shape = c.self.inside.geometry; stage = c.self.inside.stage; number = c.self.inside.number } in
-    rw (← c.self.view_is, c.refuse_rest-in-Unended.ensures) (step_unended first after (next_bytes c.self.inside.reader.held (g.S.Source.left c.args.source.now)) (next_bytes c.next_line.new.self.held (g.S.Source.left c.next_line.new.source)) (next_bytes c.next_line.new.self.held (g.S.Source.left c.next_line.new.source)) c.next_line.new.self.line (c.in-Unended.ensures.found last))
+    rw (← c.self.view_is, c.refuse_rest-in-Unended.ensures) (step_unended c.lines_are_parts.ensures first after (next_bytes c.self.inside.reader.held (g.S.Source.left c.args.source.now)) (next_bytes c.next_line.new.self.held (g.S.Source.left c.next_line.new.source)) (next_bytes c.next_line.new.self.held (g.S.Source.left c.next_line.new.source)) c.next_line.new.self.line (c.in-Unended.ensures.found last))
 
 pub returns-in-End-clause-step : goal.returns-in-End-clause-step
 returns-in-End-clause-step g c =
     let last : c.self.inside.reader.last ≡ Text = ap (λ (p : Place). p.reader.last) c.self.view_is ∙ c.requires in
     let first : Place = record { reader = c.self.inside.reader; shape = c.self.inside.geometry; stage = c.self.inside.stage; number = c.self.inside.number } in
     let after : Place = record { reader = c.next_line.new.self; shape = c.self.inside.geometry; stage = c.self.inside.stage; number = c.self.inside.number } in
-    rw (← c.self.view_is, c.end.ensures) (step_end first after (next_bytes c.self.inside.reader.held (g.S.Source.left c.args.source.now)) (next_bytes c.next_line.new.self.held (g.S.Source.left c.next_line.new.source)) c.next_line.new.self.line (c.in-End.ensures.found last))
+    rw (← c.self.view_is, c.end.ensures) (step_end c.lines_are_parts.ensures first after (next_bytes c.self.inside.reader.held (g.S.Source.left c.args.source.now)) (next_bytes c.next_line.new.self.held (g.S.Source.left c.next_line.new.source)) c.next_line.new.self.line (c.in-End.ensures.found last))

@@ -1,5 +1,5 @@
 use Rattle.ddr_text.proofs.Reopened.{reopens}
-use Rattle.audited_reports.proofs.opening_opens_again.Goals as goal
+use Rattle.ddr_text.proofs.laws.opening_opens_again.Goals as goal
 
 pub returns : goal.returns
 returns c = record { opens = reopens }
