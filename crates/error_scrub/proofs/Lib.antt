@@ -1,4 +1,5 @@
 pub mod ChangeLemmas
+mod TameWording
 pub mod WordKinds
 pub mod Wording
 pub mod ZeroWords

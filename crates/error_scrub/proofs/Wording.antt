@@ -1,5 +1,5 @@
 -- The counts of a scrub, and a stored word, equal what their wording says of the steps and the changes.
-use Rattle.std.proofs.Common.{◌≡◌, ◌≢◌, ◌∙◌, ℕ, suc, ◌+◌, ◌-◌, ◌*◌, ◌/◌, ◌%◌, ◌<◌, ◌≤◌, ◌⊎◌, ◌==◌, inl, inr, Bool, true, false, not, ◌&&◌, if◌then◌else◌, cond, max, nat_lt, refl, sym, ap, subst, arith, mul-le-mul, Option, Some, None, List, [], ◌∷◌, length, filter, find, fold, take_while}
+use Rattle.std.proofs.Common.{◌≡◌, ◌≢◌, ◌∙◌, ℕ, suc, ◌+◌, ◌*◌, ◌/◌, ◌%◌, ◌<◌, ◌≤◌, ◌⊎◌, ◌==◌, inl, inr, Bool, true, false, not, ◌&&◌, if◌then◌else◌, cond, max, nat_lt, refl, sym, ap, subst, arith, mul-le-mul, Option, Some, None, List, [], ◌∷◌, length, filter, find, fold, take_while}
 use Rattle.std.specs.Prelude.{reverse}
 use Rattle.std.proofs.Math.Nat.{div-lt_iff_lt-mul, div-mul-le_self, lt-div-mul-add, mod-eq-sub-div-mul, add-mul-mod_self_right, add-mul-div_right, mod-eq_of_lt, div-eq_of_lt, mod-lt}
 use Rattle.std.proofs.lemmas.Nat.{div-add-mod'}
@@ -290,8 +290,8 @@ changed word (turns at of bit) = turned word bit
 changed word (scrubs at) = mended word
 
 -- the word that the last write of the line left
-abbrev pub last_written : ℕ → ℕ → List Change → List ℕ
-last_written line device log = begun device (find (λ change. writes line change) log)
+abbrev pub written_word : ℕ → ℕ → List Change → List ℕ
+written_word line device log = begun device (find (λ change. writes line change) log)
 
 -- the changes of the word since then, the newest first
 abbrev pub since_write : ℕ → ℕ → List Change → List Change
@@ -303,12 +303,12 @@ one_more change word later =
     ∙ fold-append changed word (reverse later) (change ∷ [])
 
 -- in their order
-pub word_since_write : (log : List Change) (line device : ℕ) → word_after log line device ≡ fold changed (last_written line device log) (reverse (since_write line device log))
+pub word_since_write : (log : List Change) (line device : ℕ) → word_after log line device ≡ fold changed (written_word line device log) (reverse (since_write line device log))
 word_since_write [] line device = refl
 word_since_write (wrote at bytes ∷ log) line device =
     rw (take_while-cons (λ (change : Change). not (writes line change)) (wrote at bytes) log) (go (line == at) (word_since_write log line device))
   where
-    go : (t : Bool) → word_after log line device ≡ fold changed (last_written line device log) (reverse (since_write line device log))
+    go : (t : Bool) → word_after log line device ≡ fold changed (written_word line device log) (reverse (since_write line device log))
         → cond t (written bytes device) (word_after log line device)
         ≡ fold changed (begun device (cond t (Some (wrote at bytes)) (find (λ change. writes line change) log)))
         (reverse (filter (λ change. touches line device change) (cond (not t) (wrote at bytes ∷ take_while (λ change. not (writes line change)) log) [])))
@@ -317,18 +317,18 @@ word_since_write (wrote at bytes ∷ log) line device =
 word_since_write (turns at of bit ∷ log) line device =
     rw (take_while-cons (λ (change : Change). not (writes line change)) (turns at of bit) log) (go (line == at && device == of) (word_since_write log line device))
   where
-    go : (t : Bool) → word_after log line device ≡ fold changed (last_written line device log) (reverse (since_write line device log))
+    go : (t : Bool) → word_after log line device ≡ fold changed (written_word line device log) (reverse (since_write line device log))
         → cond t (turned (word_after log line device) bit) (word_after log line device)
-        ≡ fold changed (last_written line device log) (reverse (cond t (turns at of bit ∷ since_write line device log) (since_write line device log)))
+        ≡ fold changed (written_word line device log) (reverse (cond t (turns at of bit ∷ since_write line device log) (since_write line device log)))
     go true before =
         ap (λ (word : List ℕ). turned word bit) before
-        ∙ sym (one_more (turns at of bit) (last_written line device log) (since_write line device log))
+        ∙ sym (one_more (turns at of bit) (written_word line device log) (since_write line device log))
     go false before = before
 word_since_write (scrubs at ∷ log) line device =
     rw (take_while-cons (λ (change : Change). not (writes line change)) (scrubs at) log) (go (line == at) (word_since_write log line device))
   where
-    go : (t : Bool) → word_after log line device ≡ fold changed (last_written line device log) (reverse (since_write line device log))
+    go : (t : Bool) → word_after log line device ≡ fold changed (written_word line device log) (reverse (since_write line device log))
         → cond t (mended (word_after log line device)) (word_after log line device)
-        ≡ fold changed (last_written line device log) (reverse (cond t (scrubs at ∷ since_write line device log) (since_write line device log)))
-    go true before = ap mended before ∙ sym (one_more (scrubs at) (last_written line device log) (since_write line device log))
+        ≡ fold changed (written_word line device log) (reverse (cond t (scrubs at ∷ since_write line device log) (since_write line device log)))
+    go true before = ap mended before ∙ sym (one_more (scrubs at) (written_word line device log) (since_write line device log))
     go false before = before

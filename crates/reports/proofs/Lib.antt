@@ -1,5 +1,4 @@
 mod Rows
-pub mod Tame
 pub mod Ready
 pub mod Found
 pub mod Order
@@ -14,7 +13,6 @@ pub mod Bits
 pub mod Grows
 pub mod Idles
 pub mod Kept
-pub mod Bytes
 pub mod Served
 pub mod Stored
 pub mod Bounded
@@ -29,4 +27,3 @@ pub mod Counted
 pub mod Controlled
 pub mod Literal
 pub mod Inside
-mod TameWording

@@ -4,6 +4,7 @@ use Rattle.command_words.specs.declared.place.Bank.{Bank}
 use Rattle.command_words.specs.declared.command.Command.{Command}
 use Rattle.command_words.specs.declared.command.Command.TheVariants.{Act, Rd, Wr, PrePb, PreAb, Mrw, RefAb, Ecs}
 use Rattle.error_scrub.specs.Changes.{wrote, turns, scrubs}
+use Rattle.error_scrub.specs.Tame.{is_tame}
 use Rattle.speed_bin.specs.Below.{all_below, any_below}
 use Rattle.speed_bin.specs.Gap.{n_tail, n_max, n_close}
 use Rattle.speed_bin.specs.Page.{keeps_page}
@@ -21,7 +22,6 @@ use Rattle.reports.specs.Runs.{Step, Issues, Flips, Run, log_of}
 use Rattle.reports.specs.Barriers.{is_apart}
 use Rattle.reports.specs.Readings.{changes_before}
 use Rattle.reports.specs.Report.{report}
-use Rattle.reports.specs.Tame.{is_tame}
 use Rattle.reports.specs.Window.{window}
 
 -- the header with the bin tiny and 16 rows, and an ECS after each so many refreshes

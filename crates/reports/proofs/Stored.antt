@@ -1,5 +1,5 @@
 -- What the changes of a sound run leave in a line is the data of the last W line of it that was served.
-use Rattle.std.proofs.Common.{◌≡◌, ℕ, zero, suc, ◌-◌, ◌<◌, ◌==◌, ◌⊎◌, inr, Bool, true, false, cond, Option, Some, None, List, [], ◌∷◌, ◌++◌, slice_get, refl, sym, ap, ◌∙◌, subst, arith, append_assoc}
+use Rattle.std.proofs.Common.{◌≡◌, ℕ, zero, suc, ◌-◌, ◌==◌, Bool, true, false, cond, Option, Some, None, List, [], ◌∷◌, slice_get, refl, sym, ap, ◌∙◌, subst}
 use Rattle.std.specs.Prelude.{IfSome, option_map, if◌then◌else◌}
 use Rattle.std.proofs.lemmas.Bool.{eqb-true, eq-eqb}
 use Rattle.command_words.specs.Command.{bank_number}
@@ -11,30 +11,25 @@ use Rattle.command_words.specs.declared.command.Command.TheVariants.{Act, Rd, Wr
 use Rattle.speed_bin.specs.Log.{Log, open_at}
 use Rattle.speed_bin.specs.declared.header.Header.{Header}
 use Rattle.ondie_ecc.specs.Bits.{IsBytes}
-use Rattle.ondie_ecc.specs.declared.state.ReadState.{ReadState}
-use Rattle.ondie_ecc.specs.declared.state.ReadState.TheVariants.{Clean, Fixed, Lost}
-use Rattle.error_scrub.specs.Changes.{Change, wrote, turns, scrubs, word_after}
-use Rattle.error_scrub.specs.Reading.{data_read, worse}
+use Rattle.error_scrub.specs.Changes.{Change, wrote, turns, scrubs}
+use Rattle.error_scrub.specs.Tame.{last_written, AreGiven}
 use Rattle.device_core.specs.Steps.{Step as DeviceStep, log_of as device_log}
-use Rattle.device_core.specs.Stored.{line_in as device_line_in, line_at as device_line_at, change_of, also as also_change, changes_of, reading}
+use Rattle.device_core.specs.Stored.{line_in as device_line_in, line_at as device_line_at, change_of, also as also_change, changes_of}
 use Rattle.speed_bin.specs.Header.{shape_of}
 use Rattle.requests.specs.declared.request.Kind.{Kind}
 use Rattle.requests.specs.declared.request.Kind.TheVariants.{Read as Reads, Write as Writes}
 use Rattle.ddr_text.specs.declared.lines.TraceLine.{TraceLine}
 use Rattle.ddr_text.specs.declared.lines.TraceLine.TheVariants.{Read, Write, Flip, Idle}
 use Rattle.reports.specs.Requests.{Request, request_of, requests}
-use Rattle.reports.specs.Runs.{Served, Issues, Flips, Run, log_of, served, IsNext}
+use Rattle.reports.specs.Runs.{Served, Issues, Flips, Run, log_of, IsNext}
 use Rattle.reports.specs.Accesses.{Access, access_of, access_at, line_in, IsColumn}
-use Rattle.reports.specs.Memory.{written, after_line, stored_by, stored}
+use Rattle.reports.specs.Memory.{written, stored}
 use Rattle.reports.specs.Delivered.{bytes_in, bytes_for, with_flip, device_steps, IsInside, AreInside}
 use Rattle.reports.specs.Readings.{changes}
 use Rattle.reports.specs.Sound.{Sound}
-use Rattle.reports.specs.Tame.{turns_since, is_tame, IsTame}
-use Rattle.reports.proofs.Bytes.{part, sixteen, zeros-bytes, zeros-part, parts}
 use Rattle.reports.proofs.Columns.{some-column}
 use Rattle.reports.proofs.Found.{is_at}
 use Rattle.reports.proofs.Memory.{line-number, stored-more, stored-none}
-use Rattle.reports.proofs.Tame.{Repairs, IsRead, data_in, AreBits, near, read-near}
 
 -- ---- The log of a device's steps
 
@@ -76,15 +71,11 @@ applied (Some (wrote at bytes)) x old = if x == at then bytes else old
 applied (Some (turns at of bit)) x old = old
 applied (Some (scrubs at)) x old = old
 
-part-cond : (b : Bool) (new old own : List ℕ) (device : ℕ) → own ≡ part old device → cond b (part new device) own ≡ part (cond b new old) device
-part-cond true new old own device e = refl
-part-cond false new old own device e = e
-
-data-also : (o : Option Change) (cs : List Change) (x device : ℕ) (old : List ℕ) → data_in cs x device ≡ part old device → data_in (also_change o cs) x device ≡ part (applied o x old) device
-data-also None cs x device old e = e
-data-also (Some (wrote at bytes)) cs x device old e = part-cond (x == at) bytes old (data_in cs x device) device e
-data-also (Some (turns at of bit)) cs x device old e = e
-data-also (Some (scrubs at)) cs x device old e = e
+last-also : (o : Option Change) (cs : List Change) (x : ℕ) (old : List ℕ) → last_written cs x ≡ old → last_written (also_change o cs) x ≡ applied o x old
+last-also None cs x old e = e
+last-also (Some (wrote at bytes)) cs x old e = ap (cond (x == at) bytes) e
+last-also (Some (turns at of bit)) cs x old e = e
+last-also (Some (scrubs at)) cs x old e = e
 
 -- a command without bytes writes nothing
 no-bytes : (h : Header) (command : Command) (log : Log) (x : ℕ) (old : List ℕ) → applied (change_of h command None log) x old ≡ old
@@ -152,21 +143,21 @@ place-applied h trace run s x (Some r) e sound =
     ∙ line-applied h s.issued.command (log_of run) r.number x f.line (stored trace x run) r f.is (sound.0.is_of ∙ ap (option_map access_of) e)
     ∙ sym (stored-more trace run s r f.line x e there)
 
-data-flip : (h : Header) (g : Shape) (o : Option TraceLine) (steps : List DeviceStep) (x device : ℕ) → data_in (changes_of h (with_flip g o steps)) x device ≡ data_in (changes_of h steps) x device
-data-flip h g (Some (Flip line at bit)) steps x device = refl
-data-flip h g (Some (Read line)) steps x device = refl
-data-flip h g (Some (Write line bytes)) steps x device = refl
-data-flip h g (Some (Idle clocks)) steps x device = refl
-data-flip h g None steps x device = refl
+last-flip : (h : Header) (g : Shape) (o : Option TraceLine) (steps : List DeviceStep) (x : ℕ) → last_written (changes_of h (with_flip g o steps)) x ≡ last_written (changes_of h steps) x
+last-flip h g (Some (Flip line at bit)) steps x = refl
+last-flip h g (Some (Read line)) steps x = refl
+last-flip h g (Some (Write line bytes)) steps x = refl
+last-flip h g (Some (Idle clocks)) steps x = refl
+last-flip h g None steps x = refl
 
-pub data-stored : (h : Header) (trace : List TraceLine) (run : Run) (x device : ℕ) → device < 4 → Sound h trace run → data_in (changes h trace run) x device ≡ part (stored trace x run) device
-data-stored h trace [] x device low sound = zeros-part device low
-data-stored h trace (Issues s ∷ run) x device low sound =
-    ap (λ log. data_in (also_change (change_of h s.issued.command (bytes_for trace s.request) log) (changes h trace run)) x device) (log-device h trace run)
-    ∙ data-also (change_of h s.issued.command (bytes_for trace s.request) (log_of run)) (changes h trace run) x device (stored trace x run) (data-stored h trace run x device low sound.1)
-    ∙ ap (λ bytes. part bytes device) (place-applied h trace run s x s.request refl sound)
-data-stored h trace (Flips k ∷ run) x device low sound =
-    data-flip h (shape_of h) (slice_get trace (k - 1)) (device_steps h trace run) x device ∙ data-stored h trace run x device low sound.1
+pub last-stored : (h : Header) (trace : List TraceLine) (run : Run) (x : ℕ) → Sound h trace run → last_written (changes h trace run) x ≡ stored trace x run
+last-stored h trace [] x sound = refl
+last-stored h trace (Issues s ∷ run) x sound =
+    ap (λ log. last_written (also_change (change_of h s.issued.command (bytes_for trace s.request) log) (changes h trace run)) x) (log-device h trace run)
+    ∙ last-also (change_of h s.issued.command (bytes_for trace s.request) (log_of run)) (changes h trace run) x (stored trace x run) (last-stored h trace run x sound.1)
+    ∙ place-applied h trace run s x s.request refl sound
+last-stored h trace (Flips k ∷ run) x sound =
+    last-flip h (shape_of h) (slice_get trace (k - 1)) (device_steps h trace run) x ∙ last-stored h trace run x sound.1
 
 -- ---- The bits and the bytes of a trace of the subchannel
 
@@ -175,91 +166,42 @@ inside-at g [] i h = tt
 inside-at g (t ∷ trace) zero h = h.0
 inside-at g (t ∷ trace) (suc i) h = inside-at g trace i h.1
 
-bits-flip : (h : Header) (g : Shape) (o : Option TraceLine) (steps : List DeviceStep) → IfSome o (IsInside g) → AreBits (changes_of h steps) → AreBits (changes_of h (with_flip g o steps))
-bits-flip h g (Some (Flip line device bit)) steps i b = (i.2, b)
-bits-flip h g (Some (Read line)) steps i b = b
-bits-flip h g (Some (Write line bytes)) steps i b = b
-bits-flip h g (Some (Idle clocks)) steps i b = b
-bits-flip h g None steps i b = b
+given-flip : (h : Header) (g : Shape) (o : Option TraceLine) (steps : List DeviceStep) → IfSome o (IsInside g) → AreGiven (changes_of h steps) → AreGiven (changes_of h (with_flip g o steps))
+given-flip h g (Some (Flip line device bit)) steps i b = (i.2, b)
+given-flip h g (Some (Read line)) steps i b = b
+given-flip h g (Some (Write line bytes)) steps i b = b
+given-flip h g (Some (Idle clocks)) steps i b = b
+given-flip h g None steps i b = b
 
-bits-change : (h : Header) (command : Command) (bytes : Option (List ℕ)) (log : Log) (cs : List Change) → AreBits cs → AreBits (also_change (change_of h command bytes log) cs)
-bits-change h (Act bank row) bytes log cs b = b
-bits-change h (Rd bank column) bytes log cs b = b
-bits-change h (Wr bank column) (Some bytes) log cs b = b
-bits-change h (Wr bank column) None log cs b = b
-bits-change h (PrePb bank) bytes log cs b = b
-bits-change h (PreSb address) bytes log cs b = b
-bits-change h PreAb bytes log cs b = b
-bits-change h RefAb bytes log cs b = b
-bits-change h (RefSb address) bytes log cs b = b
-bits-change h RfmAb bytes log cs b = b
-bits-change h (RfmSb address) bytes log cs b = b
-bits-change h (Mrw write) bytes log cs b = b
-bits-change h Ecs bytes log cs b = b
-bits-change h Nop bytes log cs b = b
+given-line : (g : Shape) (o : Option TraceLine) → IfSome o (IsInside g) → IfSome (bytes_in o) (IsBytes 64)
+given-line g None i = tt
+given-line g (Some (Read line)) i = tt
+given-line g (Some (Write line bytes)) i = i.1
+given-line g (Some (Flip line device bit)) i = tt
+given-line g (Some (Idle clocks)) i = tt
 
-pub bits-of : (h : Header) (trace : List TraceLine) (run : Run) → AreInside (shape_of h) trace → AreBits (changes h trace run)
-bits-of h trace [] i = tt
-bits-of h trace (Issues s ∷ run) i = bits-change h s.issued.command (bytes_for trace s.request) (device_log (device_steps h trace run)) (changes h trace run) (bits-of h trace run i)
-bits-of h trace (Flips k ∷ run) i = bits-flip h (shape_of h) (slice_get trace (k - 1)) (device_steps h trace run) (inside-at (shape_of h) trace (k - 1) i) (bits-of h trace run i)
+given-bytes : (g : Shape) (trace : List TraceLine) (o : Option Request) → AreInside g trace → IfSome (bytes_for trace o) (IsBytes 64)
+given-bytes g trace None i = tt
+given-bytes g trace (Some r) i = given-line g (slice_get trace (r.number - 1)) (inside-at g trace (r.number - 1) i)
 
-bytes-cond : (b : Bool) (new old : List ℕ) → IsBytes 64 new → IsBytes 64 old → IsBytes 64 (cond b new old)
-bytes-cond true new old h k = h
-bytes-cond false new old h k = k
+given-change : (h : Header) (command : Command) (bytes : Option (List ℕ)) (log : Log) (cs : List Change) → IfSome bytes (IsBytes 64) → AreGiven cs → AreGiven (also_change (change_of h command bytes log) cs)
+given-change h (Act bank row) bytes log cs i b = b
+given-change h (Rd bank column) bytes log cs i b = b
+given-change h (Wr bank column) (Some bytes) log cs i b = (i, b)
+given-change h (Wr bank column) None log cs i b = b
+given-change h (PrePb bank) bytes log cs i b = b
+given-change h (PreSb address) bytes log cs i b = b
+given-change h PreAb bytes log cs i b = b
+given-change h RefAb bytes log cs i b = b
+given-change h (RefSb address) bytes log cs i b = b
+given-change h RfmAb bytes log cs i b = b
+given-change h (RfmSb address) bytes log cs i b = b
+given-change h (Mrw write) bytes log cs i b = b
+given-change h Ecs bytes log cs i b = b
+given-change h Nop bytes log cs i b = b
 
-bytes-line : (g : Shape) (x : ℕ) (o : Option TraceLine) (old : List ℕ) → IfSome o (IsInside g) → IsBytes 64 old → IsBytes 64 (after_line x o old)
-bytes-line g x None old i h = h
-bytes-line g x (Some (Read line)) old i h = h
-bytes-line g x (Some (Write line bytes)) old i h = bytes-cond (line == x) bytes old i.1 h
-bytes-line g x (Some (Flip line device bit)) old i h = h
-bytes-line g x (Some (Idle clocks)) old i h = h
-
-bytes-by : (g : Shape) (trace : List TraceLine) (x : ℕ) (rs : List Request) → AreInside g trace → IsBytes 64 (stored_by trace x rs)
-bytes-by g trace x [] i = zeros-bytes
-bytes-by g trace x (r ∷ rs) i = bytes-line g x (slice_get trace (r.number - 1)) (stored_by trace x rs) (inside-at g trace (r.number - 1) i) (bytes-by g trace x rs i)
-
--- ---- A tame reading
-
-abbrev IsGood : ReadState → Type 0
-IsGood state = (state ≡ Clean) ⊎ (state ≡ Fixed)
-
-good-worse : (a b : ReadState) → IsGood a → IsGood b → IsGood (worse a b)
-good-worse Clean b h k = k
-good-worse Fixed Clean h k = inr refl
-good-worse Fixed Fixed h k = inr refl
-good-worse Fixed Lost h k = k
-good-worse Lost b h k = h
-
--- the reading of a tame line has the bytes that the line was last written with
-pub record IsPlain (trace : List TraceLine) (run : Run) (x : ℕ) (cs : List Change) : Type 0 where
-  pub bytes : (reading cs x).bytes ≡ stored trace x run
-  pub state : IsGood (reading cs x).state
-
-word-read : Repairs → (h : Header) (trace : List TraceLine) (run : Run) (x device : ℕ) → device < 4 → AreInside (shape_of h) trace → Sound h trace run → is_tame (changes h trace run) x device ≡ true
-    → IsRead (part (stored trace x run) device) (word_after (changes h trace run) x device)
-word-read laws h trace run x device low i sound tame =
-    let there : data_in (changes h trace run) x device ≡ part (stored trace x run) device = data-stored h trace run x device low sound in
-    let own = near laws (changes h trace run) x device (bits-of h trace run i) tame in
-    subst (λ bytes. IsRead bytes (word_after (changes h trace run) x device)) there
-    (read-near laws (data_in (changes h trace run) x device) (word_after (changes h trace run) x device) (turns_since (changes h trace run) x device)
-    (subst (λ bytes. IsBytes 16 bytes) (sym there) (sixteen (stored trace x run) device low (bytes-by (shape_of h) trace x (served run) i))) own)
-
-pub plain-read : Repairs → (h : Header) (trace : List TraceLine) (run : Run) (x : ℕ) → AreInside (shape_of h) trace → Sound h trace run → IsTame (changes h trace run) x → IsPlain trace run x (changes h trace run)
-unfolding reading
-plain-read laws h trace run x i sound tame =
-    let w0 = word-read laws h trace run x 0 (omega arith) i sound (tame 0 (omega arith)) in
-    let w1 = word-read laws h trace run x 1 (omega arith) i sound (tame 1 (omega arith)) in
-    let w2 = word-read laws h trace run x 2 (omega arith) i sound (tame 2 (omega arith)) in
-    let w3 = word-read laws h trace run x 3 (omega arith) i sound (tame 3 (omega arith)) in
-    let bytes = stored trace x run in
-    record {
-      bytes =
-          ap (λ d. ((d ++ data_read (word_after (changes h trace run) x 1)) ++ data_read (word_after (changes h trace run) x 2)) ++ data_read (word_after (changes h trace run) x 3)) w0.bytes_are
-          ∙ ap (λ d. ((part bytes 0 ++ d) ++ data_read (word_after (changes h trace run) x 2)) ++ data_read (word_after (changes h trace run) x 3)) w1.bytes_are
-          ∙ ap (λ d. ((part bytes 0 ++ part bytes 1) ++ d) ++ data_read (word_after (changes h trace run) x 3)) w2.bytes_are
-          ∙ ap (λ d. ((part bytes 0 ++ part bytes 1) ++ part bytes 2) ++ d) w3.bytes_are
-          ∙ append_assoc (part bytes 0 ++ part bytes 1) (part bytes 2) (part bytes 3)
-          ∙ append_assoc (part bytes 0) (part bytes 1) (part bytes 2 ++ part bytes 3)
-          ∙ parts bytes (bytes-by (shape_of h) trace x (served run) i).counted;
-      state = good-worse _ _ (good-worse _ _ w0.not_lost w1.not_lost) (good-worse _ _ w2.not_lost w3.not_lost);
-    }
+pub changes-given : (h : Header) (trace : List TraceLine) (run : Run) → AreInside (shape_of h) trace → AreGiven (changes h trace run)
+changes-given h trace [] i = tt
+changes-given h trace (Issues s ∷ run) i =
+    given-change h s.issued.command (bytes_for trace s.request) (device_log (device_steps h trace run)) (changes h trace run) (given-bytes (shape_of h) trace s.request i) (changes-given h trace run i)
+changes-given h trace (Flips k ∷ run) i = given-flip h (shape_of h) (slice_get trace (k - 1)) (device_steps h trace run) (inside-at (shape_of h) trace (k - 1) i) (changes-given h trace run i)

@@ -1,7 +1,8 @@
 -- What a finished report promises.
-use Rattle.std.specs.Prelude.{ℕ, ◌≡◌, ◌⊎◌, None, List, ◌∷◌, ◌++◌, reverse}
-use Rattle.ondie_ecc.specs.declared.state.ReadState.TheVariants.{Clean, Fixed}
+use Rattle.std.specs.Prelude.{ℕ, ◌≡◌, None, List, ◌∷◌, ◌++◌, reverse}
 use Rattle.error_scrub.specs.declared.cells.LineRead.{LineRead}
+use Rattle.error_scrub.specs.Reading.{IsGood}
+use Rattle.error_scrub.specs.Tame.{IsTame}
 use Rattle.speed_bin.specs.Log.{Log}
 use Rattle.speed_bin.specs.Rules.{verdict_at_end}
 use Rattle.speed_bin.specs.declared.header.Header.{Header}
@@ -17,7 +18,6 @@ use Rattle.reports.specs.Memory.{memory}
 use Rattle.reports.specs.Readings.{changes_before, reading_of}
 use Rattle.reports.specs.Report.{answers, report, values}
 use Rattle.reports.specs.Sound.{AllBounded}
-use Rattle.reports.specs.Tame.{IsTame}
 
 -- the log of the C lines of a run's report
 abbrev pub shown_log : Header → List TraceLine → Run → Log
@@ -26,7 +26,7 @@ shown_log h trace run = reverse (places_of (report h trace run))
 -- a reading has plain memory's bytes, and its words were clean or fixed
 pub record IsRight (trace : List TraceLine) (r : Request) (read : LineRead) : Type 0 where
   pub bytes : read.bytes ≡ memory trace r.number r.line
-  pub state : (read.state ≡ Clean) ⊎ (read.state ≡ Fixed)
+  pub state : IsGood read.state
 
 -- The command log satisfies every rule at each place and at the end, the R and W lines are served in the order of their line and the
 -- F lines carried out in theirs, each R line is answered once, in the order of the trace, with plain memory's bytes

@@ -5,8 +5,6 @@ pub mod Memory
 pub mod Barriers
 pub mod Offered
 pub mod Delivered
-pub mod Tame
-pub mod TameWording
 pub mod Readings
 pub mod Report
 pub mod Stats

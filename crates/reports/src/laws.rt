@@ -11,6 +11,7 @@ ghost use Rattle.speed_bin.specs.Gap.{n_max};
 ghost use Rattle.command_words.specs.Kinds.{is_act, is_rd, is_wr};
 ghost use Rattle.speed_bin.specs.Log.{Log, open_at, last_clock};
 ghost use Rattle.speed_bin.specs.declared.header.Header.{Header};
+ghost use Rattle.error_scrub.specs.Tame.{IsTame};
 ghost use Rattle.device_core.specs.Standing.{IsGiven, IsBit};
 ghost use Rattle.device_core.specs.Steps.{Flips as Turns, log_of as device_log};
 ghost use Rattle.device_core.specs.Stored.{answer as device_answer};
@@ -35,7 +36,6 @@ ghost use Rattle.reports.specs.Delivered.{bytes_for, device_steps, IsInside, Are
 ghost use Rattle.reports.specs.Offered.{asked, offered, rank, ranked, controller_steps};
 ghost use Rattle.reports.specs.Readings.{changes_before, reading_of};
 ghost use Rattle.reports.specs.Report.{answers, issued_line, latest, report, values};
-ghost use Rattle.reports.specs.Tame.{IsTame};
 ghost use Rattle.reports.specs.Sound.{IsSoundPlace, Sound, IsShort, IsRun, AllBounded};
 ghost use Rattle.reports.specs.Headline.{IsRight, Headline};
 ghost use Rattle.reports.specs.Whole.{whole};
@@ -50,8 +50,7 @@ pub fn headline()
     ensures promises { (h : Header) (trace : List TraceLine) (run : Run) (clock : ℕ) → IsAccepted h
         → AreInside (shape_of h) trace → IsRun h trace run clock → Headline h trace run clock }
 {
-    ondie_ecc::laws::codeword_is_clean();
-    ondie_ecc::laws::one_turn_is_undone();
+    device_core::laws::reads_last_write();
     backoff::laws::bound();
 }
 
@@ -62,8 +61,7 @@ pub fn reads_plain_memory()
         → is_served r.number run ≡ true → IsTame (changes_before h trace run r) r.line
         → IsRight trace r (reading_of h trace run r) }
 {
-    ondie_ecc::laws::codeword_is_clean();
-    ondie_ecc::laws::one_turn_is_undone();
+    device_core::laws::reads_last_write();
 }
 
 /// Up to no place of a sound run has a row more activations since its last mitigation than the bound.

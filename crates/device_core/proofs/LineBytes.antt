@@ -1,10 +1,15 @@
 -- Bytes of a line, and the 16 of each of its four devices.
-use Rattle.std.proofs.Common.{◌≡◌, ℕ, zero, suc, ◌+◌, ◌*◌, ◌<◌, ◌≤◌, List, [], ◌∷◌, ◌++◌, length, replicate, take, drop, refl, sym, ap, ◌∙◌, arith, append-nil}
+use Rattle.std.proofs.Common.{◌≡◌, ℕ, zero, suc, ◌+◌, ◌*◌, ◌<◌, ◌≤◌, ◌==◌, Bool, true, false, cond, List, [], ◌∷◌, ◌++◌, length, replicate, take, drop, refl, sym, ap, ◌∙◌, arith, append-nil}
 use Rattle.std.specs.Prelude.{slice_index, slice_range}
 use Rattle.std.proofs.lemmas.List.{length-take}
 use Rattle.std.proofs.lemmas.List.Folds.{drop_split}
 use Rattle.ondie_ecc.specs.Bits.{IsBytes}
-use Rattle.reports.specs.Memory.{zeros}
+use Rattle.error_scrub.specs.Changes.{Change, wrote, turns, scrubs}
+use Rattle.error_scrub.specs.Tame.{last_written, AreGiven}
+
+-- the bytes of a line that was never written
+abbrev pub zeros : List ℕ
+zeros = replicate 64 0
 
 -- the bytes of a device
 abbrev pub part : List ℕ → ℕ → List ℕ
@@ -79,3 +84,15 @@ parts bytes e = sym
     ∙ ap (λ l. slice_range bytes 16 32 ++ l) (drop_split bytes 32 48 (omega arith)
     ∙ ap (λ l. slice_range bytes 32 48 ++ l) (drop_split bytes 48 64 (omega arith)
     ∙ ap (λ l. slice_range bytes 48 64 ++ l) (drop-whole 64 bytes e) ∙ append-nil (slice_range bytes 48 64)))))
+
+-- ---- What a line was last written with
+
+bytes-cond : (b : Bool) (new old : List ℕ) → IsBytes 64 new → IsBytes 64 old → IsBytes 64 (cond b new old)
+bytes-cond true new old h k = h
+bytes-cond false new old h k = k
+
+pub last-bytes : (changes : List Change) (line : ℕ) → AreGiven changes → IsBytes 64 (last_written changes line)
+last-bytes [] line given = zeros-bytes
+last-bytes (wrote at bytes ∷ changes) line given = bytes-cond (line == at) bytes (last_written changes line) given.0 (last-bytes changes line given.1)
+last-bytes (turns at of bit ∷ changes) line given = last-bytes changes line given.1
+last-bytes (scrubs at ∷ changes) line given = last-bytes changes line given

@@ -1,8 +1,8 @@
 -- A tame line, change by change, is one in words.
-use Rattle.std.proofs.Common.{◌≡◌, ◌≢◌, ◌∙◌, ℕ, suc, ◌==◌, ◌&&◌, ◌||◌, ◌⊎◌, inl, inr, not, Bool, true, false, cond, List, [], ◌∷◌, ◌++◌, refl, sym, ap, subst, eq-eqb, eqb-true, ne_eqb, arith}
+use Rattle.std.proofs.Common.{◌≡◌, ◌∙◌, ℕ, suc, ◌==◌, ◌&&◌, ◌||◌, ◌⊎◌, inl, inr, not, Bool, true, false, cond, List, [], ◌∷◌, ◌++◌, refl, sym, ap, subst, eq-eqb, eqb-true, ne_eqb, arith}
 use Rattle.error_scrub.specs.Changes.{Change, wrote, turns, scrubs}
-use Rattle.reports.specs.Tame.{turns_since, is_tame}
-use Rattle.reports.specs.TameWording.{NoneWrites, SomeScrubs, IsTameInWords}
+use Rattle.error_scrub.specs.Tame.{turns_since, is_tame}
+use Rattle.error_scrub.specs.TameWording.{NoneWrites, SomeScrubs, IsTameInWords}
 
 both : (x y : Bool) → (x && y) ≡ true → (x ≡ true) × (y ≡ true)
 both true y h = (refl, h)

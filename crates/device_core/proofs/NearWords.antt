@@ -1,6 +1,6 @@
--- A stored word that took few turned bits is a codeword of the line's data, or one with one bit turned.
-use Rattle.std.proofs.Common.{◌≡◌, ℕ, suc, ◌+◌, ◌*◌, ◌<◌, ◌==◌, ◌&&◌, ◌||◌, ◌⊎◌, inl, inr, Bool, true, false, not, cond, List, [], ◌∷◌, replicate, refl, ap, ◌∙◌, arith}
-use Rattle.std.specs.Prelude.{slice_range, nat_le, ⊤, ◌-◌, if◌then◌else◌}
+-- A stored word that took few turned bits is a codeword of what its line was last written with, or one with one bit turned.
+use Rattle.std.proofs.Common.{◌≡◌, ℕ, suc, ◌+◌, ◌<◌, ◌==◌, ◌&&◌, ◌||◌, ◌⊎◌, inl, inr, Bool, true, false, not, cond, List, [], ◌∷◌, refl, ap, ◌∙◌, arith}
+use Rattle.std.specs.Prelude.{nat_le, ◌-◌}
 use Rattle.std.proofs.lemmas.Bool.{eqb-true}
 use Rattle.ondie_ecc.specs.Bits.{turned, IsBytes}
 use Rattle.ondie_ecc.specs.Codeword.{codeword_of, data_of, syndrome_of}
@@ -10,7 +10,8 @@ use Rattle.ondie_ecc.specs.declared.state.ReadState.TheVariants.{Clean, Fixed, L
 use Rattle.error_scrub.specs.Cells.{zero_word}
 use Rattle.error_scrub.specs.Changes.{Change, wrote, turns, scrubs, word_after}
 use Rattle.error_scrub.specs.Reading.{data_read, state_of}
-use Rattle.reports.specs.Tame.{turns_since, is_tame}
+use Rattle.error_scrub.specs.Tame.{turns_since, is_tame, last_written, AreGiven}
+use Rattle.device_core.proofs.LineBytes.{part, zeros-part}
 
 -- what the code of words does, as its own laws say
 pub record Repairs : Type 0 where
@@ -26,24 +27,10 @@ abbrev pub IsNear : List ℕ → List ℕ → ℕ → Type 0
 IsNear bytes word count =
     ((count ≡ 0) × (word ≡ codeword_of bytes)) ⊎ ((count ≡ 1) × ((bit : ℕ) × (bit < 136) × (word ≡ turned (codeword_of bytes) bit)))
 
--- the bytes of a device that its line was last written with
-abbrev pub data_in : List Change → ℕ → ℕ → List ℕ
-data_in [] line device = replicate 16 0
-data_in (wrote at bytes ∷ changes) line device = if line == at then slice_range bytes (16 * device) (16 * device + 16) else data_in changes line device
-data_in (turns at of bit ∷ changes) line device = data_in changes line device
-data_in (scrubs at ∷ changes) line device = data_in changes line device
-
--- each turned bit is one of a codeword
-abbrev pub AreBits : List Change → Type 0
-AreBits [] = ⊤
-AreBits (wrote at bytes ∷ changes) = AreBits changes
-AreBits (turns at of bit ∷ changes) = (bit < 136) × AreBits changes
-AreBits (scrubs at ∷ changes) = AreBits changes
-
-wrote-step : (t tame : Bool) (new old word : List ℕ) (count : ℕ) → (t || tame) ≡ true → (tame ≡ true → IsNear old word count)
-    → IsNear (cond t new old) (cond t (codeword_of new) word) (cond t 0 count)
-wrote-step true tame new old word count e h = inl (refl, refl)
-wrote-step false tame new old word count e h = h e
+wrote-step : (t tame : Bool) (device : ℕ) (new old word : List ℕ) (count : ℕ) → (t || tame) ≡ true → (tame ≡ true → IsNear (part old device) word count)
+    → IsNear (part (cond t new old) device) (cond t (codeword_of (part new device)) word) (cond t 0 count)
+wrote-step true tame device new old word count e h = inl (refl, refl)
+wrote-step false tame device new old word count e h = h e
 
 mended-near : Repairs → (bytes word : List ℕ) (count : ℕ) → IsNear bytes word count → mended word ≡ codeword_of bytes
 mended-near laws bytes word count (inl h) = ap mended h.1 ∙ laws.stays bytes
@@ -69,18 +56,18 @@ turns-step true tame bytes word count bit low e h =
     let k = turns-two true tame (count == 0) e in first-turn bytes word count bit low (eqb-true _ _ (k.1 refl)) (h k.0)
 turns-step false tame bytes word count bit low e h = h (turns-two false tame (count == 0) e).0
 
-pub near : Repairs → (changes : List Change) (line device : ℕ) → AreBits changes → is_tame changes line device ≡ true
-    → IsNear (data_in changes line device) (word_after changes line device) (turns_since changes line device)
+pub near : Repairs → (changes : List Change) (line device : ℕ) → device < 4 → AreGiven changes → is_tame changes line device ≡ true
+    → IsNear (part (last_written changes line) device) (word_after changes line device) (turns_since changes line device)
 unfolding zero_word
-near laws [] line device bits e = inl (refl, refl)
-near laws (wrote at bytes ∷ changes) line device bits e =
-    wrote-step (line == at) (is_tame changes line device) (slice_range bytes (16 * device) (16 * device + 16)) (data_in changes line device) (word_after changes line device) (turns_since changes line device) e
-    (near laws changes line device bits)
-near laws (scrubs at ∷ changes) line device bits e =
-    scrubs-step laws (line == at) (data_in changes line device) (word_after changes line device) (turns_since changes line device) (near laws changes line device bits e)
-near laws (turns at of bit ∷ changes) line device bits e =
-    turns-step (line == at && device == of) (is_tame changes line device) (data_in changes line device) (word_after changes line device) (turns_since changes line device) bit bits.0 e
-    (near laws changes line device bits.1)
+near laws [] line device low given e = inl (refl, ap codeword_of (zeros-part device low))
+near laws (wrote at bytes ∷ changes) line device low given e =
+    wrote-step (line == at) (is_tame changes line device) device bytes (last_written changes line) (word_after changes line device) (turns_since changes line device) e
+    (near laws changes line device low given.1)
+near laws (scrubs at ∷ changes) line device low given e =
+    scrubs-step laws (line == at) (part (last_written changes line) device) (word_after changes line device) (turns_since changes line device) (near laws changes line device low given e)
+near laws (turns at of bit ∷ changes) line device low given e =
+    turns-step (line == at && device == of) (is_tame changes line device) (part (last_written changes line) device) (word_after changes line device) (turns_since changes line device) bit given.0 e
+    (near laws changes line device low given.1)
 
 -- ---- What is read of it
 
