@@ -15,6 +15,9 @@ mod run;
 mod showing;
 mod shown;
 #[cfg(test)]
+mod stream_tests;
+mod streams;
+#[cfg(test)]
 mod stress_tests;
 #[cfg(test)]
 mod tests;
@@ -25,46 +28,36 @@ mod version_stress_tests;
 mod version_tests;
 mod writing;
 
-pub use at_end::at_end;
-use ddr_io::{RealSink, RealSource, Status};
+pub use at_end::{at_end, exit_code, finish};
+use ddr_io::Status;
 pub use fault::{Fault, fault_of};
 pub use form::{Form, form_of};
 pub use run::run;
-use std::io::{BufWriter, ErrorKind, Write};
 use std::process::ExitCode;
 use std::{env, io};
+pub use streams::{run_on_streams, unread_line, without_name};
 
 fn main(rt: HostRuntime) -> ExitCode {
     let status = whole_run(&rt);
     if let Some(fault) = fault_of(status) {
         let _ = eprintln!(rt; "{fault}");
     }
-    ExitCode::from(status as u8)
+    exit_code(status)
 }
 
-// Runs on standard input and standard output, which is flushed at the end.
+// Runs on standard input and standard output.
 fn whole_run(rt: &HostRuntime) -> Status {
-    let words = match words(rt) {
-        Ok(words) => words,
-        Err(error) if error.kind() == ErrorKind::OutOfMemory => return Status::OutOfMemory,
-        Err(_) => return Status::Usage,
-    };
-    let mut out = match BufWriter::new(rt.alloc(), rt.stdout()) {
-        Ok(out) => out,
-        Err(_) => return Status::OutOfMemory,
-    };
-    let mut source = RealSource::new(rt.stdin());
-    let mut sink = RealSink::new(&mut out);
-    let status = run(rt.alloc(), &words, &mut source, &mut sink);
-    let flushed = out.flush().is_ok();
-    at_end(status, flushed)
+    match command_line(rt) {
+        Ok(line) => run_on_streams(rt.alloc(), &line, rt.stdin(), rt.stdout()),
+        Err(error) => unread_line(&error),
+    }
 }
 
-// The words of the command line, without the program's name.
-fn words(rt: &HostRuntime) -> io::Result<Vec<String>> {
-    let mut words = Vec::new(rt.alloc());
-    for word in env::args(rt)?.skip(1) {
-        words.push(word)?;
+// The program's name, and then the words.
+fn command_line(rt: &HostRuntime) -> io::Result<Vec<String>> {
+    let mut line = Vec::new(rt.alloc());
+    for word in env::args(rt)? {
+        line.push(word)?;
     }
-    Ok(words)
+    Ok(line)
 }

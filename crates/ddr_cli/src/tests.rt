@@ -95,10 +95,45 @@ fn a_large_made_job_is_replayed_and_audited(rt: HostRuntime) -> Result<(), Fail>
 #[test]
 fn a_made_job_is_run_alike_each_time(rt: HostRuntime) -> Result<(), Fail> {
     let alloc = rt.alloc();
-    let (_, first) = run_with(alloc, &["gen", "run", "7", "100"], b"")?;
-    let (status, second) = run_with(alloc, &["gen", "run", "7", "100"], b"")?;
+    let (_, first) = run_with(alloc, &["gen", "run", "1", "100"], b"")?;
+    let (status, second) = run_with(alloc, &["gen", "run", "1", "100"], b"")?;
     assert_eq!(rt; status, Status::Ok);
     assert_eq!(rt; first.bytes(), second.bytes());
+    Ok(())
+}
+
+// The report of a job whose opening has this bin, these rows, this line of `ath` and this end.
+fn opened_with(
+    alloc: Global,
+    (bin, rows, ath, end): (&str, &str, &str, &str),
+) -> Result<(Status, PlainSink), Fail> {
+    let job = format!(in alloc;
+        "format = 1\nbin = \"{bin}\"\nrows = {rows}\n{ath}eth = 3\nraaimt = 8\nraammt = 16\nrefresh = \"all\"\necs_every = 0\n{end}"
+    )?;
+    run_with(alloc, &["replay"], job.as_bytes())
+}
+
+#[test]
+fn headers_are_refused(rt: HostRuntime) -> Result<(), Fail> {
+    let rows = [
+        (
+            ("tiny", "16", "ath = 5\n", "[timing]\nnABO = 34\n---\n"),
+            "X 0 22\n",
+        ),
+        (("tiny", "0", "ath = 5\n", "---\n"), "X 0 14\n"),
+        (("fast", "16", "ath = 5\n", "---\n"), "X 0 15\n"),
+        (("tiny", "16", "", "---\n"), "X 0 12\n"),
+        (("tiny", "16", "ath = \"5\"\n", "---\n"), "X 0 13\n"),
+        (("tiny", "16", "ath = \n", "---\n"), "X 0 11\n"),
+        (("tiny", "16", "ath = 5\n", ""), "X 0 16\n"),
+    ];
+    for (opening, want) in rows {
+        let (status, report) = opened_with(rt.alloc(), opening)?;
+        assert_eq!(rt; status, Status::Refused);
+        assert_eq!(rt; report.bytes(), want.as_bytes());
+    }
+    let accepted = ("tiny", "16", "ath = 5\n", "[timing]\nnABO = 33\n---\n");
+    assert_eq!(rt; opened_with(rt.alloc(), accepted)?.0, Status::Ok);
     Ok(())
 }
 
