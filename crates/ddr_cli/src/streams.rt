@@ -1,7 +1,6 @@
 //! The run on the streams and the command line of the system.
-ghost use Rattle.std.specs.Prelude.{◌≡◌, ◌≢◌, drop};
+ghost use Rattle.std.specs.Prelude.{◌≡◌, ◌≢◌, ◌⊎◌, drop};
 ghost use Rattle.std.specs.IoError.{error_kind};
-ghost use Rattle.ddr_cli.specs.AtEnd.{IsAnswer};
 ghost use Rattle.ddr_cli.specs.Words.{IsAudit, IsListed};
 
 use crate::{finish, run};
@@ -19,7 +18,7 @@ pub fn run_on_streams<R: Read + Drop, W: Write + Drop>(
     writer: W,
 ) -> Status
     ensures usage { result ≡ Status.Usage → ¬ (IsListed (drop 1 line.now)) }
-    ensures listed { IsAnswer result → IsListed (drop 1 line.now) }
+    ensures unlisted { ¬ (IsListed (drop 1 line.now)) → (result ≡ Status.Usage) ⊎ (result ≡ Status.OutOfMemory) }
     ensures broken { result ≡ Status.Broken → IsAudit (drop 1 line.now) }
 {
     let mut out = match BufWriter::new(alloc, writer) {
