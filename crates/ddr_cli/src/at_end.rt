@@ -1,6 +1,7 @@
 //! How the program ends: its status once the output was handed on, and the number of that status.
 ghost use Rattle.std.specs.Prelude.{◌≡◌, ◌≢◌, []};
-ghost use Rattle.std.specs.Io.Buffered.{writer_buffer};
+ghost use Rattle.std.specs.Io.Buffered.{writer_buffer, writer_contents};
+ghost use Rattle.std.specs.Io.KnownBytes.{Keeps};
 ghost use Rattle.std.specs.Process.{exit_status};
 ghost use Rattle.ddr_cli.specs.AtEnd.{IsAnswer, number_of, status_at_end};
 
@@ -23,6 +24,9 @@ pub fn at_end(status: Status, flushed: bool) -> Status
 pub fn finish<W: Write + Drop>(status: Status, out: &mut BufWriter<W>) -> Status
     // A status that is no fault comes only where nothing is held back any more.
     ensures whole { IsAnswer result → writer_buffer out.new ≡ [] }
+
+    // No byte is lost, and none is added.
+    ensures kept { Keeps (writer_contents W.contents out.old) (writer_contents W.contents out.new) }
 
     // What could not be handed on is a write fault; nothing else changes the status.
     ensures same { result ≢ Status.WriteFault → result ≡ status }

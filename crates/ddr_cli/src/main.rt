@@ -5,6 +5,7 @@
 mod at_end;
 #[cfg(test)]
 mod audit_tests;
+mod command_line;
 mod fault;
 #[cfg(test)]
 mod fault_tests;
@@ -29,13 +30,14 @@ mod version_tests;
 mod writing;
 
 pub use at_end::{at_end, exit_code, finish};
+pub use command_line::{unread_line, words_of};
 use ddr_io::Status;
 pub use fault::{Fault, fault_of};
 pub use form::{Form, form_of};
 pub use run::run;
 use std::process::ExitCode;
 use std::{env, io};
-pub use streams::{run_on_streams, unread_line, without_name};
+pub use streams::run_on_streams;
 
 fn main(rt: HostRuntime) -> ExitCode {
     let status = whole_run(&rt);
@@ -47,17 +49,13 @@ fn main(rt: HostRuntime) -> ExitCode {
 
 // Runs on standard input and standard output.
 fn whole_run(rt: &HostRuntime) -> Status {
-    match command_line(rt) {
-        Ok(line) => run_on_streams(rt.alloc(), &line, rt.stdin(), rt.stdout()),
+    match words(rt) {
+        Ok(words) => run_on_streams(rt.alloc(), &words, &mut rt.stdin(), &mut rt.stdout()),
         Err(error) => unread_line(&error),
     }
 }
 
-// The program's name, and then the words.
-fn command_line(rt: &HostRuntime) -> io::Result<Vec<String>> {
-    let mut line = Vec::new(rt.alloc());
-    for word in env::args(rt)? {
-        line.push(word)?;
-    }
-    Ok(line)
+// The words of the command line.
+fn words(rt: &HostRuntime) -> io::Result<Vec<String>> {
+    words_of(rt.alloc(), env::args(rt)?)
 }

@@ -1,5 +1,5 @@
 //! Whole runs on streams that fail or not: each status, and the number that the process ends with.
-use crate::{exit_code, run_on_streams, unread_line};
+use crate::{exit_code, run_on_streams, unread_line, words_of};
 use ddr_io::Status;
 use std::alloc::Global;
 use std::io;
@@ -61,6 +61,16 @@ const JOB: &[u8] =
 const REPORT: &[u8] =
     b"format = 1\nbin = \"tiny\"\nrows = 16\nath = 5\neth = 3\nraaimt = 8\nraammt = 16\nrefresh = \"all\"\necs_every = 0\n---\nE 1\n";
 
+// A command line: the program's name, and then these words.
+fn line_of(alloc: Global, words: &[&str]) -> Result<Vec<String>, Fail> {
+    let mut line = Vec::new(alloc);
+    line.push(String::from_str(alloc, "ddr")?)?;
+    for word in words {
+        line.push(String::from_str(alloc, word)?)?;
+    }
+    Ok(line)
+}
+
 // Runs the program with these words behind its name; the three flags are of the reads, the writes and the flush.
 fn status_of(
     alloc: Global,
@@ -68,25 +78,21 @@ fn status_of(
     bytes: &'static [u8],
     fails: (bool, bool, bool),
 ) -> Result<Status, Fail> {
-    let mut line = Vec::new(alloc);
-    line.push(String::from_str(alloc, "ddr")?)?;
-    for word in words {
-        line.push(String::from_str(alloc, word)?)?;
-    }
-    let input = Input {
+    let words = words_of(alloc, line_of(alloc, words)?.into_iter())?;
+    let mut input = Input {
         bytes,
         fails: fails.0,
     };
-    let output = Output {
+    let mut output = Output {
         write_fails: fails.1,
         flush_fails: fails.2,
     };
-    Ok(run_on_streams(alloc, &line, input, output))
+    Ok(run_on_streams(alloc, &words, &mut input, &mut output))
 }
 
 #[test]
-fn each_status_has_its_run(rt: HostRuntime) -> Result<(), Fail> {
-    let rows: [(&[&str], &[u8], (bool, bool, bool), Status); 15] = [
+fn each_answer_has_its_run(rt: HostRuntime) -> Result<(), Fail> {
+    let rows: [(&[&str], &[u8], (bool, bool, bool), Status); 8] = [
         (&["replay"], JOB, WELL, Status::Ok),
         (&["show"], JOB, WELL, Status::Refused),
         (&["audit"], REPORT, WELL, Status::Broken),
@@ -94,6 +100,17 @@ fn each_status_has_its_run(rt: HostRuntime) -> Result<(), Fail> {
         (&["gen", "run", "1", "1"], b"", NO_READ, Status::Ok),
         (&[], JOB, WELL, Status::Usage),
         (&["ddr", "replay"], JOB, WELL, Status::Usage),
+        (&["Replay"], JOB, (true, true, true), Status::Usage),
+    ];
+    for (words, bytes, fails, want) in rows {
+        assert_eq!(rt; status_of(rt.alloc(), words, bytes, fails)?, want);
+    }
+    Ok(())
+}
+
+#[test]
+fn each_fault_has_its_run(rt: HostRuntime) -> Result<(), Fail> {
+    let rows: [(&[&str], &[u8], (bool, bool, bool), Status); 7] = [
         (&["replay"], JOB, NO_READ, Status::ReadFault),
         (&["upgrade"], REPORT, NO_READ, Status::ReadFault),
         (&["replay"], JOB, NO_WRITE, Status::WriteFault),
@@ -101,7 +118,6 @@ fn each_status_has_its_run(rt: HostRuntime) -> Result<(), Fail> {
         (&["replay"], JOB, NO_FLUSH, Status::WriteFault),
         (&["audit"], REPORT, NO_FLUSH, Status::WriteFault),
         (&["replay"], JOB, (true, false, true), Status::ReadFault),
-        (&["Replay"], JOB, (true, true, true), Status::Usage),
     ];
     for (words, bytes, fails, want) in rows {
         assert_eq!(rt; status_of(rt.alloc(), words, bytes, fails)?, want);

@@ -1,25 +1,43 @@
-//! The run on the streams and the command line of the system.
-ghost use Rattle.std.specs.Prelude.{◌≡◌, ◌≢◌, ◌⊎◌, drop};
-ghost use Rattle.std.specs.IoError.{error_kind};
-ghost use Rattle.ddr_cli.specs.Words.{IsAudit, IsListed};
+//! The run on the streams of the system.
+ghost use Rattle.std.specs.Prelude.{◌≡◌, ◌≢◌, ◌↔◌};
+ghost use Rattle.ddr_cli.specs.Words.{IsAudit, IsListed, Makes};
 
-use crate::{finish, run};
+use crate::{finish, form_of, run};
 use ddr_io::{RealSink, RealSource, Status};
 use std::alloc::Global;
-use std::io;
-use std::io::{BufWriter, ErrorKind, Read, Write};
+use std::io::{BufWriter, Read, Write};
 
-/// Runs on a reader and a writer. What is written goes through a buffer, which is handed on at the end. `line` is the
-/// whole command line.
-pub fn run_on_streams<R: Read + Drop, W: Write + Drop>(
+/// Does all that the program does, on a reader and a writer. `words` are those of the command line, without the program's
+/// name. Other words than those of a form are told before anything is made for the streams, so that they need no memory.
+pub fn run_on_streams<R: Read, W: Write>(
     alloc: Global,
-    line: &[String],
-    reader: R,
-    writer: W,
+    words: &[String],
+    reader: &mut R,
+    writer: &mut W,
 ) -> Status
-    ensures usage { result ≡ Status.Usage → ¬ (IsListed (drop 1 line.now)) }
-    ensures unlisted { ¬ (IsListed (drop 1 line.now)) → (result ≡ Status.Usage) ⊎ (result ≡ Status.OutOfMemory) }
-    ensures broken { result ≡ Status.Broken → IsAudit (drop 1 line.now) }
+    ensures usage { (result ≡ Status.Usage) ↔ (¬ IsListed words.now) }
+    ensures unread { result ≡ Status.Usage → reader.new ≡ reader.old }
+    ensures unwritten { result ≡ Status.Usage → writer.new ≡ writer.old }
+    ensures made_unread { Makes words.now → reader.new ≡ reader.old }
+    ensures broken { result ≡ Status.Broken → IsAudit words.now }
+{
+    match form_of(words) {
+        Some(_) => run_buffered(alloc, words, reader, writer),
+        None => Status::Usage,
+    }
+}
+
+// Does what the words ask for. What is written goes through a buffer, which is handed on at the end.
+fn run_buffered<R: Read, W: Write>(
+    alloc: Global,
+    words: &[String],
+    reader: &mut R,
+    writer: &mut W,
+) -> Status
+    requires { IsListed words.now }
+    ensures usage { result ≢ Status.Usage }
+    ensures made_unread { Makes words.now → reader.new ≡ reader.old }
+    ensures broken { result ≡ Status.Broken → IsAudit words.now }
 {
     let mut out = match BufWriter::new(alloc, writer) {
         Ok(out) => out,
@@ -27,27 +45,6 @@ pub fn run_on_streams<R: Read + Drop, W: Write + Drop>(
     };
     let mut source = RealSource::new(reader);
     let mut sink = RealSink::new(&mut out);
-    let status = run(alloc, without_name(line), &mut source, &mut sink);
+    let status = run(alloc, words, &mut source, &mut sink);
     finish(status, &mut out)
-}
-
-/// The words of the command line, without the program's name, which is the first.
-pub fn without_name(line: &[String]) -> &[String]
-    ensures { result.now ≡ drop 1 line.now }
-{
-    match line {
-        [_, ..] => &line[1..],
-        [] => line,
-    }
-}
-
-/// The status where the command line could not be read: memory was wanting, or a word of it is no text.
-pub fn unread_line(error: &io::Error) -> Status
-    ensures memory { error_kind error.now ≡ ErrorKind.OutOfMemory → result ≡ Status.OutOfMemory }
-    ensures other { error_kind error.now ≢ ErrorKind.OutOfMemory → result ≡ Status.Usage }
-{
-    match error.kind() {
-        ErrorKind::OutOfMemory => Status::OutOfMemory,
-        _ => Status::Usage,
-    }
 }
