@@ -49,10 +49,7 @@ pub ledger_of : (c : Controller) (from until : ℕ) (finished : Bool) (h : Heade
 ledger_of c from until finished h offered idle log clock command id next queue r =
     let s = r.holds.ledger in record {
       accepted = s.accepted;
-      gate = s.gate;
-      banks = s.banks;
-      plan = s.plan;
-      raa = s.raa;
+      stands = s.stands;
       owed = s.owed;
       written = s.written;
       later = up_to_more from c.ledger.from (places log) r.waited s.later;
@@ -62,10 +59,7 @@ pub suits_of : (laws : Laws) (c : Controller) (from until : ℕ) (finished : Boo
 suits_of laws c from until finished h offered idle log clock command id next queue r =
     let k = kept_of laws c from until finished h offered idle log clock command id next queue r in record {
       late = r.late;
-      follows = r.follows;
-      fits = r.fits;
-      allowed = record { sixth = k.sixth; seventh = k.seventh; eighth = k.eighth };
-      ninth = r.ninth;
+      follows = record { spaced = r.follows; fits = r.fits; allowed = record { sixth = k.sixth; seventh = k.seventh; eighth = k.eighth }; counted = r.ninth };
       spares = r.spares;
     }
 

@@ -4,7 +4,7 @@ use Rattle.std.specs.List.{remove}
 use Rattle.std.specs.Option.{IsSome}
 use Rattle.command_words.specs.Command.{covers, is_at}
 use Rattle.speed_bin.specs.Below.{all_below}
-use Rattle.command_words.specs.Kinds.{effect, Closes, is_mrw, is_precharge, needs_closed}
+use Rattle.command_words.specs.Kinds.{Closes, is_mrw, is_precharge, needs_closed}
 use Rattle.speed_bin.specs.Log.{Log, open_at}
 use Rattle.speed_bin.specs.Rules.{rule_5, rule_9, rule_10, rule_12, rule_14}
 use Rattle.speed_bin.specs.declared.header.Header.{Header}
@@ -47,10 +47,7 @@ pub ledger_waited : (c : Controller) (h : Header) (offered : List Request) (idle
 ledger_waited c h offered idle log errand r =
     let s = r.awake.holds.ledger in record {
       accepted = s.accepted;
-      gate = s.gate;
-      banks = s.banks;
-      plan = s.plan;
-      raa = s.raa;
+      stands = s.stands;
       owed = s.owed;
       written = s.written;
       later = up_to_more c.ledger.from errand.start (places log) r.errand_is.late s.later;

@@ -1,14 +1,10 @@
 -- What the ledger says of a log.
-use Rattle.std.specs.Prelude.{◌≡◌, ℕ, ◌<◌, ◌≤◌, Bool, false, List, [], ◌∷◌, length, min, slice_index_or, IsTrue, ⊤}
+use Rattle.std.specs.Prelude.{◌≡◌, ℕ, ◌<◌, ◌≤◌, Bool, false, List, [], ◌∷◌, length, min, slice_index_or, ⊤}
 use Rattle.command_words.specs.declared.command.Command.{Command}
 use Rattle.speed_bin.specs.Header.{IsAccepted}
 use Rattle.speed_bin.specs.Log.{Log}
-use Rattle.speed_bin.specs.Rules.{MayFollow, rule_9}
 use Rattle.speed_bin.specs.declared.header.Header.{Header}
-use Rattle.timing_rules.specs.Gate.{StandsFor as GateStandsFor}
-use Rattle.bank_state.specs.Standing.{Fits, StandsFor as BanksStandFor}
-use Rattle.refresh_plan.specs.Standing.{IsAllowed, StandsFor as PlanStandsFor}
-use Rattle.rfm_counts.specs.Standing.{StandsFor as RaaStandsFor}
+use Rattle.log_ledger.specs.Standing.{Follows, StandsFor as LogStandsFor}
 use Rattle.requests.specs.Owed.{owed, SparesOwed}
 use Rattle.scheduler.specs.declared.ledger.Ledger.{Ledger}
 
@@ -23,21 +19,15 @@ UpTo s (place ∷ log) = (place.clock ≤ s) × UpTo s log
 
 pub record StandsFor (ledger : Ledger) (h : Header) (log : Log) : Type 0 where
   pub accepted : IsAccepted h
-  pub gate : GateStandsFor ledger.gate h.timing log
-  pub banks : BanksStandFor ledger.banks log
-  pub plan : PlanStandsFor ledger.plan h log
-  pub raa : RaaStandsFor ledger.raa h log
+  pub stands : LogStandsFor ledger.log h log
   pub owed : (b : ℕ) → b < 32 → owes ledger.owed b ≡ owed b log
   pub written : ledger.written ≡ min 8 (length log)
   pub later : UpTo ledger.from log
 
--- the command may follow the log at this clock, as far as the parts are concerned
+-- the command may follow the log at this clock, as far as the ledger is concerned
 pub record Suits (ledger : Ledger) (h : Header) (log : Log) (clock : ℕ) (command : Command) : Type 0 where
   pub late : ledger.from ≤ clock
-  pub follows : MayFollow h.timing clock command log
-  pub fits : Fits command log
-  pub allowed : IsAllowed h clock command log
-  pub ninth : IsTrue (rule_9 h command log)
+  pub follows : Follows h clock command log
   pub spares : SparesOwed command log
 
 -- that of some log

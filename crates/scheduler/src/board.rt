@@ -2,11 +2,12 @@
 ghost use Rattle.std.specs.Prelude.{◌≡◌, ℕ, ◌<◌, ◌≤◌, ◌==◌, ◌&&◌, List, length};
 ghost use Rattle.command_words.specs.Command.{bank_number};
 ghost use Rattle.speed_bin.specs.Log.{Log, open_at};
-ghost use Rattle.bank_state.specs.Standing.{StandsFor as BanksStandFor};
 ghost use Rattle.speed_bin.specs.Counters.{is_row};
+ghost use Rattle.speed_bin.specs.declared.header.Header.{Header as AnyHeader};
 ghost use Rattle.scheduler.specs.Board.{IsBoardOf};
+ghost use Rattle.scheduler.specs.Ledger.{StandsFor as LedgerStandsFor};
 
-use bank_state::Banks;
+use crate::ledger::Ledger;
 use command_words::{Bank, Place};
 use requests::Waiting;
 
@@ -37,26 +38,26 @@ impl Board {
 }
 
 /// One pass over the queue finds what each bank has in it.
-pub(crate) fn board_of(queue: &[Waiting], banks: &Banks) -> Board
+pub(crate) fn board_of(queue: &[Waiting], ledger: &Ledger) -> Board
     requires few { length queue.now ≤ 32 }
-    ensures { (log : Log) → BanksStandFor banks.now log → IsBoardOf result queue.now log }
+    ensures { (h : AnyHeader) (log : Log) → LedgerStandsFor ledger.now h log → IsBoardOf result queue.now log }
 {
     let mut board = Board {
         oldest: [None; 32],
         hit: [None; 32],
     };
     for (at, waiting) in queue.iter().enumerate() {
-        let is_hit = is_open(banks, &waiting.place);
+        let is_hit = is_open(ledger, &waiting.place);
         board.note(waiting.place.bank, at, is_hit);
     }
     board
 }
 
 // Whether the place's row is open in its bank.
-fn is_open(banks: &Banks, place: &Place) -> bool
-    ensures { (log : Log) → BanksStandFor banks.now log → result ≡ is_row (open_at (bank_number place.now.bank) log) place.now.row }
+fn is_open(ledger: &Ledger, place: &Place) -> bool
+    ensures { (h : AnyHeader) (log : Log) → LedgerStandsFor ledger.now h log → result ≡ is_row (open_at (bank_number place.now.bank) log) place.now.row }
 {
-    match banks.open_row(place.bank) {
+    match ledger.log.open_row(place.bank) {
         Some(row) => row.get() == place.row.get(),
         None => false,
     }

@@ -2,7 +2,6 @@
 ghost use Rattle.std.specs.Prelude.{◌≡◌, ℕ, ◌+◌, ◌<◌, ◌≤◌, List, [], Option, Some, None, slice_get, length, IfSome, IfNone, IsTrue, true, ◌↔◌};
 ghost use Rattle.speed_bin.specs.Log.{Log};
 ghost use Rattle.speed_bin.specs.declared.header.Header.{Header as AnyHeader};
-ghost use Rattle.bank_state.specs.Standing.{StandsFor as BanksStandFor};
 ghost use Rattle.requests.specs.Queue.{in_bank};
 ghost use Rattle.requests.specs.declared.waiting.Waiting.{Waiting as AnyWaiting};
 ghost use Rattle.scheduler.specs.Ledger.{StandsFor as LedgerStandsFor};
@@ -12,7 +11,6 @@ ghost use Rattle.scheduler.specs.Choice.{Wants, IsCandidate, IsBest, IsBefore, I
 use crate::Clock;
 use crate::board::{Board, board_of};
 use crate::ledger::Ledger;
-use bank_state::Banks;
 use command_words::Command;
 use requests::{Kind, Waiting};
 
@@ -60,13 +58,13 @@ pub(crate) fn command_for(class: Class, waiting: &Waiting) -> Command
 
 /// Step 2. What a bank asks for, if some request of it waits: with a hit the RD or WR of its oldest hit; open and without a
 /// hit PREpb; closed the ACT of the row of its oldest waiting request.
-fn wish_of(number: usize, board: &Board, queue: &[Waiting], banks: &Banks) -> Option<Wish>
+fn wish_of(number: usize, board: &Board, queue: &[Waiting], ledger: &Ledger) -> Option<Wish>
     requires low { number < 32 }
     requires few { length queue.now ≤ 32 }
-    requires board { (log : Log) × (BanksStandFor banks.now log) × IsBoardOf board.now queue.now log }
+    requires board { (h : AnyHeader) × (log : Log) × (LedgerStandsFor ledger.now h log) × IsBoardOf board.now queue.now log }
     ensures none { IfNone result (first_at (in_bank number) queue.now ≡ None) }
     ensures inside { IfSome result (λ wish. wish.at < length queue.now) }
-    ensures some { IfSome result (λ wish. (log : Log) → BanksStandFor banks.now log → IsBoardOf board.now queue.now log → Wants wish.class queue.now number log wish.at) }
+    ensures some { IfSome result (λ wish. (h : AnyHeader) (log : Log) → LedgerStandsFor ledger.now h log → IsBoardOf board.now queue.now log → Wants wish.class queue.now number log wish.at) }
 {
     let Some(at) = board.oldest[number] else {
         return None;
@@ -77,7 +75,7 @@ fn wish_of(number: usize, board: &Board, queue: &[Waiting], banks: &Banks) -> Op
             at: hit,
         });
     }
-    let class = match banks.open_row(waiting_at(queue, at).place.bank) {
+    let class = match ledger.log.open_row(waiting_at(queue, at).place.bank) {
         Some(_) => Class::Precharge,
         None => Class::Activate,
     };
@@ -103,7 +101,7 @@ fn candidate_of(
     if !asked[number] {
         return None;
     }
-    let wish = wish_of(number, board, queue, &ledger.banks)?;
+    let wish = wish_of(number, board, queue, ledger)?;
     let waiting = waiting_at(queue, wish.at);
     let clock = ledger.soonest(&command_for(wish.class, &waiting));
     Some(Candidate {
@@ -132,7 +130,7 @@ pub(crate) fn choose(queue: &[Waiting], ledger: &Ledger, asked: &[bool; 32]) -> 
     ensures some { IfSome result (λ candidate. (h : AnyHeader) (log : Log) → LedgerStandsFor ledger.now h log
         → IsBest h queue.now log ledger.now.from asked.now candidate) }
 {
-    let board = board_of(queue, &ledger.banks);
+    let board = board_of(queue, ledger);
     let mut best = None;
     for number in 0..32 {
         best = better_of(best, candidate_of(number, asked, &board, queue, ledger));

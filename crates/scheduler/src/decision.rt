@@ -36,13 +36,13 @@ impl Controller {
         if soonest > last {
             return true;
         }
-        if self.ledger.plan.ecs_due() {
+        if self.ledger.log.ecs_due() {
             return true;
         }
-        if self.ledger.plan.due(soonest).is_some() {
+        if self.ledger.log.due(soonest).is_some() {
             return true;
         }
-        self.ledger.raa.wanted().is_some()
+        self.ledger.log.wanted().is_some()
     }
 
     /// Step 5. Where no task is set, the first of these sets one: an ECS that is due; a refresh that is due at e0, which is at a
@@ -66,16 +66,16 @@ impl Controller {
         if let Some(task) = self.task {
             return Some(Errand { task, start });
         }
-        if self.ledger.plan.ecs_due() {
+        if self.ledger.log.ecs_due() {
             let task = Task::Ecs;
             return Some(Errand { task, start });
         }
-        if let Some(due) = self.ledger.plan.due(soonest) {
+        if let Some(due) = self.ledger.log.due(soonest) {
             let task = refresh_of(due);
-            let start = start.max(self.ledger.plan.next_due());
+            let start = start.max(self.ledger.log.next_due());
             return Some(Errand { task, start });
         }
-        if let Some(address) = self.ledger.raa.wanted() {
+        if let Some(address) = self.ledger.log.wanted() {
             let task = Task::RfmSame(address);
             return Some(Errand { task, start });
         }

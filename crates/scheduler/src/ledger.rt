@@ -1,10 +1,9 @@
-//! What the controller knows of its log, by the parts that keep it.
+//! What the controller knows of its log.
 ghost use Rattle.std.specs.Prelude.{◌≡◌, ℕ, ◌+◌, ◌<◌, ◌≤◌, ◌^◌, ◌&&◌, List, [], ◌∷◌, length, min, IfOk, IsTrue, ◌↔◌, false};
 ghost use Rattle.command_words.specs.Command.{covers};
 ghost use Rattle.speed_bin.specs.Header.{IsAccepted};
 ghost use Rattle.command_words.specs.Kinds.{effect, Closes};
 ghost use Rattle.speed_bin.specs.Log.{Log};
-ghost use Rattle.speed_bin.specs.Rules.{rule_4, rule_5};
 ghost use Rattle.speed_bin.specs.declared.header.Header.{Header as AnyHeader};
 ghost use Rattle.bank_state.specs.Standing.{Fits};
 ghost use Rattle.requests.specs.Choice.{IsSoonest};
@@ -12,22 +11,17 @@ ghost use Rattle.requests.specs.Owed.{is_column, owed_after};
 ghost use Rattle.scheduler.specs.Ledger.{StandsFor, Suits, MayIssue, owes};
 
 use crate::Clock;
-use bank_state::Banks;
 use command_words::Command;
 use ddr_io::OutOfMemory;
-use refresh_plan::Plan;
-use rfm_counts::Raa;
+use log_ledger::Ledger as LogLedger;
 use speed_bin::Header;
 use std::alloc::Global;
-use timing_rules::Gate;
 
-/// The parts, each of which stands for the log.
+/// The ledger of the log, and what the policy needs beside it.
 #[derive(Drop)]
 pub(crate) struct Ledger {
-    pub gate: Gate,
-    pub banks: Banks,
-    pub plan: Plan,
-    pub raa: Raa,
+    /// What the rules say of the log.
+    pub log: LogLedger,
     /// Which banks are owed: those with no RD or WR since their ACT.
     pub owed: [bool; 32],
     /// How many places the log has, up to 8.
@@ -44,10 +38,7 @@ impl Ledger {
         ensures from { IfOk result (λ ledger. ledger.from ≡ 0) }
     {
         Ok(Ledger {
-            gate: Gate::new(alloc, &header.timing)?,
-            banks: Banks::new(),
-            plan: Plan::new(header),
-            raa: Raa::new(&header.settings),
+            log: LogLedger::new(alloc, header)?,
             owed: [false; 32],
             written: 0,
             from: 0,
@@ -56,17 +47,16 @@ impl Ledger {
 
     /// The e of a command: the least clock that the rules of spacing allow and that is not below `from`.
     pub fn soonest(&self, command: &Command) -> Clock
-        requires { (h : AnyHeader) × (log : Log) × StandsFor self.now h log }
         ensures { (h : AnyHeader) (log : Log) → StandsFor self.now h log → IsSoonest h log self.now.from command.now result }
     {
-        self.gate.earliest(command).max(self.from)
+        self.log.earliest(command).max(self.from)
     }
 
     /// Whether the banks that the command covers are open or closed as it needs them.
     pub fn fits(&self, command: &Command) -> bool
         ensures { (h : AnyHeader) (log : Log) → StandsFor self.now h log → (IsTrue result ↔ Fits command.now log) }
     {
-        self.banks.fits(command).is_ok()
+        self.log.fits(command).is_ok()
     }
 
     /// No command comes before this clock.
@@ -86,10 +76,7 @@ impl Ledger {
             → StandsFor self.new h (record { clock = clock; command = command.now } ∷ log) }
         ensures from { self.new.from ≡ clock + 1 }
     {
-        self.gate.issue(clock, command);
-        self.banks.issue(command);
-        self.plan.issue(clock, command);
-        self.raa.issue(command);
+        self.log.issue(clock, command);
         self.note(command);
         self.written = (self.written + 1).min(8);
         self.from = clock + 1;

@@ -159,7 +159,7 @@ impl Controller {
         if !self.finished {
             return Turn::Idle;
         }
-        if self.ledger.banks.all_closed() {
+        if self.ledger.log.all_closed() {
             return Turn::Done;
         }
         self.issue_soonest(Command::PreAb, None)

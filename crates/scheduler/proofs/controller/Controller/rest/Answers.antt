@@ -19,14 +19,14 @@ returns-then-not-self-clause-after c = λ h offered idle log r.
 pub returns-then-all_closed-clause-after : goal.returns-then-all_closed-clause-after
 returns-then-all_closed-clause-after c = λ h offered idle log r.
     let self = c.args.self.now in
-    let closed = sym (c.all_closed.ensures (places log) (c.wait_until.ensures.stands h (places log) r.awake.holds.ledger).banks) ∙ c.if-all_closed.true in
+    let closed = sym (c.all_closed.ensures h (places log) (c.wait_until.ensures.stands h (places log) r.awake.holds.ledger).stands) ∙ c.if-all_closed.true in
     (rests_of c.turn_laws.ensures self (record self { ledger = c.wait_until.new.self }) h offered idle log r c.requires.bound (at_rest self c.wait_until.new.self c.max-soonest.result c.wait_until.ensures.from c.max-soonest.ensures), c.if-not-self.false, ends_right c.turn_laws.ensures self h offered idle log r closed)
 
 pub issue_soonest-requires : goal.issue_soonest-requires
 issue_soonest-requires c =
     let r = c.requires.resting in
     let self = c.args.self.now in
-    let opened = sym (c.all_closed.ensures (places r.3) (c.wait_until.ensures.stands r.0 (places r.3) r.4.awake.holds.ledger).banks) ∙ c.if-all_closed.false in record {
+    let opened = sym (c.all_closed.ensures r.0 (places r.3) (c.wait_until.ensures.stands r.0 (places r.3) r.4.awake.holds.ledger).stands) ∙ c.if-all_closed.false in record {
       ready = (
         self.ledger.from,
         self.until,
@@ -43,7 +43,7 @@ issue_soonest-requires c =
 pub returns-clause-after : goal.returns-clause-after
 returns-clause-after c = λ h offered idle log r.
     let self = c.args.self.now in
-    let opened = sym (c.all_closed.ensures (places log) (c.wait_until.ensures.stands h (places log) r.awake.holds.ledger).banks) ∙ c.if-all_closed.false in
+    let opened = sym (c.all_closed.ensures h (places log) (c.wait_until.ensures.stands h (places log) r.awake.holds.ledger).stands) ∙ c.if-all_closed.false in
     c.issue_soonest.ensures.after self.ledger.from self.until self.finished h offered idle log
     (subst (λ (x : Controller). IsReadySoon x self.ledger.from self.until self.finished h offered idle log PreAb None) (sym (at_rest self c.wait_until.new.self c.max-soonest.result c.wait_until.ensures.from c.max-soonest.ensures))
     (last_ready c.turn_laws.ensures self h offered idle log r c.requires.bound c.if-not-self.false opened))
@@ -52,7 +52,7 @@ pub returns-clause-bound : goal.returns-clause-bound
 returns-clause-bound c =
     let r = c.requires.resting in
     let self = c.args.self.now in
-    let opened = sym (c.all_closed.ensures (places r.3) (c.wait_until.ensures.stands r.0 (places r.3) r.4.awake.holds.ledger).banks) ∙ c.if-all_closed.false in
+    let opened = sym (c.all_closed.ensures r.0 (places r.3) (c.wait_until.ensures.stands r.0 (places r.3) r.4.awake.holds.ledger).stands) ∙ c.if-all_closed.false in
     c.issue_soonest.ensures.bound self.ledger.from self.until self.finished r.0 r.1 r.2 r.3
     (subst (λ (x : Controller). IsReadySoon x self.ledger.from self.until self.finished r.0 r.1 r.2 r.3 PreAb None) (sym (at_rest self c.wait_until.new.self c.max-soonest.result c.wait_until.ensures.from c.max-soonest.ensures))
     (last_ready c.turn_laws.ensures self r.0 r.1 r.2 r.3 r.4 c.requires.bound c.if-not-self.false opened))

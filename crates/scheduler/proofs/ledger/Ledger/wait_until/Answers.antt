@@ -4,10 +4,7 @@ use Rattle.scheduler.proofs.ledger.Ledger.wait_until.Goals as goal
 pub returns-clause-stands : goal.returns-clause-stands
 returns-clause-stands c = λ h log s. record {
   accepted = s.accepted;
-  gate = s.gate;
-  banks = s.banks;
-  plan = s.plan;
-  raa = s.raa;
+  stands = s.stands;
   owed = s.owed;
   written = s.written;
   later = up_to_more c.args.self.now.from c.args.clock log c.requires s.later;
