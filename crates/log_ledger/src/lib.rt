@@ -3,5 +3,7 @@
 
 mod ledger;
 mod parts;
+#[cfg(test)]
+mod tests;
 
 pub use ledger::Ledger;
