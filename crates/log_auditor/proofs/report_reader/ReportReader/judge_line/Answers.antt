@@ -16,4 +16,4 @@ pub returns-in-Err-clause-judged : goal.returns-in-Err-clause-judged
 returns-in-Err-clause-judged c =
     let fits : length c.self.inside.reader.line < 512 = rw (← c.self.view_is) at c.requires in
     let read = sym c.in-Err.is ∙ c.read_report_line.ensures ∙ ap (report_line_of c.self.inside.geometry) c.line.ensures in
-    rw (← c.self.view_is) (judges_read _ _ _ (Err c.in-Err.fault) c.if-self-gt-MOST_LINES.false fits read (rw (c.refuse-in-Err.ensures, c.from.ensures) (refl, refl)))
+    rw (c.refuse-in-Err.ensures, c.from.ensures, ← c.self.view_is) (judges_read _ _ _ (Err c.in-Err.fault) c.if-self-gt-MOST_LINES.false fits read (refl, refl))
