@@ -19,9 +19,10 @@ fn fresh(alloc: Global) -> Option<Ledger> {
 
 // Issues the command at this clock where it breaks none of the rules, and says which one it breaks.
 fn step(ledger: &mut Ledger, clock: u32, command: &Command) -> Option<u8> {
-    let broken = ledger.broken(u64::from(clock), command);
+    let clock = u64::from(clock);
+    let broken = ledger.broken(clock, command);
     if broken.is_none() {
-        ledger.issue(u64::from(clock), command);
+        ledger.issue(clock, command);
     }
     broken
 }
