@@ -15,6 +15,7 @@ use std::alloc::Global;
 use trace_replay::{Ended, Ending, run_job};
 
 /// Makes a job, replays it in memory, and writes the end of its report: the S lines and the E line.
+#[inline(never)]
 pub(crate) fn run_made<K: Sink>(alloc: Global, seed: u64, requests: u64, sink: &mut K) -> Status
     requires { requests ≤ 1048576 }
     ensures answer { MadeAnswers result seed requests (K.written sink.old) (K.written sink.new) }

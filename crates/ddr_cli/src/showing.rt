@@ -11,6 +11,7 @@ use std::alloc::Global;
 
 /// Reads a report, and writes for each C line its clock and its command in readable form. A line that is not well formed
 /// ends it with an X line.
+#[inline(never)]
 pub fn show<S: Source, K: Sink>(alloc: Global, source: &mut S, sink: &mut K) -> Status
     ensures answer { ShowAnswers result (S.left source.old) (S.left source.new) (K.written sink.old) (K.written sink.new) }
     ensures usage { result ≢ Status.Usage }

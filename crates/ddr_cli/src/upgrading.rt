@@ -16,6 +16,7 @@ use std::alloc::Global;
 
 /// Reads a report, and writes it in version 2: the separator `---` becomes `--- 2 4 8`, and all else stays. A line that is
 /// not well formed ends it with an X line.
+#[inline(never)]
 pub fn upgrade<S: Source, K: Sink>(alloc: Global, source: &mut S, sink: &mut K) -> Status
     ensures answer { UpgradeAnswers result (S.left source.old) (S.left source.new) (K.written sink.old) (K.written sink.new) }
     ensures usage { result ≢ Status.Usage }

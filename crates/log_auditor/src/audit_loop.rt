@@ -23,6 +23,7 @@ use std::alloc::Global;
 /// Reads a report, and writes one line: `A ok` where it is well formed and its log satisfies the rules, `A broken` with
 /// the first line at which a rule fails and the least rule there, or `X` with the first line that is not well formed and
 /// the reason. A line that is not well formed comes before a broken rule, wherever it stands.
+#[inline(never)]
 pub fn audit<S: Source, K: Sink>(alloc: Global, source: &mut S, sink: &mut K) -> Status
     ensures answer { Answers result (S.left source.old) (S.left source.new) (K.written sink.old) (K.written sink.new) }
     ensures read { result ≡ Status.ReadFault → Rose (S.faults source.old) (S.faults source.new) }

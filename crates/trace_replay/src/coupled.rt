@@ -63,6 +63,7 @@ impl Coupled {
     ghost use Rattle.trace_replay.specs.Coupled.{StandsFor, After, IsAwaited, controller_of, device_of, pending_of, alert_of, from_of, until_of, finished_of};
 
     /// Both before their first command, at clock 0. No command is pending.
+    #[inline(never)]
     pub fn new(alloc: Global, header: &Header) -> Result<Coupled, OutOfMemory>
         requires { IsAccepted header.now }
         ensures stands { IfOk result (λ c. StandsFor c header.now [] 0 []) }

@@ -36,6 +36,7 @@ pub enum Ended {
 
 /// Reads a job, and writes its report as the run goes on: the header and its separator, the lines of each turn, the S
 /// lines, the E line, and an X line where a line of the trace is refused. Of an opening that is refused it writes the X line alone.
+#[inline(never)]
 pub fn replay<S: Source, K: Sink>(alloc: Global, source: &mut S, sink: &mut K) -> Status
     ensures answer { Answers result (S.left source.old) (S.left source.new) (K.written sink.old) (K.written sink.new) }
 
