@@ -1,12 +1,11 @@
 -- The header of a job, line by line.
-use Rattle.std.proofs.Common.{codes, ◌≡◌, ◌≢◌, ℕ, ◌+◌, ◌<◌, ◌≤◌, Bool, true, false, if◌then◌else◌, List, [], ◌∷◌, ◌++◌, length, take, drop, get_or, refl, sym, ap, ◌∙◌, subst, arith, append_assoc, length-append, length-take-le, take-append-drop, drop_at, Option, Some, None, Result, Ok, Err, OnErr, lit<}
-use Rattle.std.specs.List.{All, slice_split, onto_first}
+use Rattle.std.proofs.Common.{◌≡◌, ◌≢◌, ℕ, ◌<◌, ◌≤◌, Bool, true, false, if◌then◌else◌, List, [], ◌∷◌, ◌++◌, length, take, drop, refl, sym, ap, ◌∙◌, subst, arith, append_assoc, length-append, length-take-le, take-append-drop, drop_at, Option, Some, None, Result, Ok, Err, OnErr, lit<}
+use Rattle.std.specs.List.{slice_split}
 use Rattle.std.specs.Io.KnownBytes.{Consumes, Keeps}
 use Rattle.std.proofs.KnownBytes.{Consumes-trans}
-use Rattle.std.proofs.lemmas.Bool.{ne_eqb, le-ltb, lt-ltb, ltb-false}
-use Rattle.std.proofs.lemmas.Slice.Eq.{bytes_eq-Decides}
-use Rattle.std.proofs.lemmas.List.Splits.{slice_split_at, slice_split_none, slice_split-cons_yes, slice_split-cons_no}
-use Rattle.std.proofs.lemmas.List.Elements.{All-nil, All-head, All-tail}
+use Rattle.std.proofs.lemmas.Bool.{ltb-false}
+use Rattle.std.proofs.lemmas.List.Splits.{slice_split_none}
+use Rattle.std.proofs.lemmas.List.Elements.{All-nil}
 use Rattle.ddr_io.specs.Line.{HasNoFeed, IsNextLine, next_bytes}
 use Rattle.ddr_io.specs.declared.line_reader.Line.TheVariants.{Text, End, TooLong, Unended}
 use Rattle.ddr_text.specs.declared.opening.Front.TheVariants as front
@@ -15,7 +14,7 @@ use Rattle.ddr_text.specs.Opening.{Heading, Refuses, IsUnopened, is_feed, parts_
 use Rattle.ddr_text.specs.Reason.{number_of}
 use Rattle.ddr_text.specs.declared.reason.Reason.{Reason}
 use Rattle.ddr_text.specs.declared.reason.Reason.TheVariants.{FaultySeparator, HeaderTooLong, NoSeparator}
-use Rattle.ddr_text.specs.Separator.{Role, Ends, Faulty, Text as TextLine, role_of_line}
+use Rattle.ddr_text.specs.Separator.{Ends, Faulty, Text as TextLine, role_of_line}
 use Rattle.speed_bin.specs.Version.{Figures}
 use Rattle.ddr_text.proofs.LineParts.{line_part, long, long_part, no_feeds, short}
 

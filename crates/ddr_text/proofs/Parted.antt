@@ -1,15 +1,13 @@
 -- An opening whose header text and separator are apart, and then one.
-use Rattle.std.proofs.Common.{◌≡◌, ◌++◌, ℕ, List, [], length, take, drop, refl, sym, ap, ◌∙◌, subst, take-append-drop, Option, Some, None, Result, Ok, Err, IfOk, OnErr}
+use Rattle.std.proofs.Common.{◌≡◌, ◌++◌, ℕ, List, [], length, take, sym, ap, ◌∙◌, subst, take-append-drop, Option, Some, None, Result, Ok, Err, IfOk, OnErr}
 use Rattle.std.specs.Io.KnownBytes.{Consumes}
-use Rattle.ddr_io.specs.declared.line_reader.Line.{Line}
 use Rattle.speed_bin.specs.Document.{header_stated}
-use Rattle.speed_bin.specs.Header.{IsAccepted}
 use Rattle.speed_bin.specs.Version.{Figures}
 use Rattle.speed_bin.specs.declared.fault.HeaderFault.{HeaderFault}
 use Rattle.speed_bin.specs.declared.header.Header.{Header}
 use Rattle.ddr_text.specs.Apart.{HasParts, IsApart, IsApartAnswer}
 use Rattle.ddr_text.specs.Front.{IsFront, IsJudged}
-use Rattle.ddr_text.specs.Opening.{Heading, Opens, Accepts, Refuses, IsAnswer, IsOpening, behind, heading_in, judged, opening_of, opening_text, parts_of, with_feed, with_heading}
+use Rattle.ddr_text.specs.Opening.{Heading, Accepts, Refuses, IsAnswer, IsOpening, behind, heading_in, judged, opening_of, opening_text, parts_of, with_feed, with_heading}
 use Rattle.ddr_text.specs.declared.opening.Apart.{Apart}
 use Rattle.ddr_text.specs.declared.opening.Apart.TheVariants as apart
 use Rattle.ddr_text.specs.declared.opening.Front.TheVariants as front

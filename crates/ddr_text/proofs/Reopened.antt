@@ -1,5 +1,5 @@
 -- The header text of a job, in front of any separator, opens a job with that separator's version.
-use Rattle.std.proofs.Common.{codes, ◌≡◌, ℕ, ◌+◌, Bool, true, false, if◌then◌else◌, List, [], ◌∷◌, ◌++◌, length, refl, sym, ap, ◌∙◌, subst, append_assoc, length-append, drop_at, Result, Ok, Err}
+use Rattle.std.proofs.Common.{◌≡◌, ℕ, Bool, true, false, if◌then◌else◌, List, [], ◌∷◌, ◌++◌, length, refl, sym, ap, ◌∙◌, subst, append_assoc, drop_at, Result, Ok, Err}
 use Rattle.std.specs.List.{slice_split}
 use Rattle.speed_bin.specs.Document.{header_stated}
 use Rattle.speed_bin.specs.Version.{Figures}

@@ -1,11 +1,10 @@
 -- A line is a separator, begins as one, or is a line of a header, by its first field and what follows that.
-use Rattle.std.proofs.Common.{codes, ◌≡◌, ◌∙◌, ℕ, ◌==◌, ◌&&◌, ◌||◌, nat_le, Bool, true, false, cond, List, [], ◌∷◌, refl, sym, ap, subst, inl, inr, Option, Some, None, Result, Ok, Err}
+use Rattle.std.proofs.Common.{codes, ◌≡◌, ◌∙◌, ℕ, ◌==◌, ◌&&◌, ◌||◌, nat_le, Bool, true, false, cond, List, [], ◌∷◌, refl, ap, subst, inl, inr, Option, Some, None, Result, Ok, Err}
 use Rattle.std.proofs.lemmas.Bool.{and_parts, leb-true, eqb-true}
 use Rattle.command_words.specs.Geometry.{IsGroups}
 use Rattle.std.specs.List.{slice_split, onto_first}
 use Rattle.std.specs.Str.{bytes_eq}
 use Rattle.std.proofs.lemmas.List.Splits.{slice_split-cons_yes, slice_split-cons_no}
-use Rattle.ddr_text.specs.Fields.{fields_after}
 use Rattle.ddr_text.specs.Grammar.{is_space, fields_of, number_of, three_fields}
 use Rattle.ddr_text.specs.declared.lines.LineFault.{LineFault}
 use Rattle.ddr_text.specs.Separator.{Role, Ends, Faulty, Text, role_of, role_of_line, role_behind, ends_or_faulty, version_at, version_if, version_in, version_of}

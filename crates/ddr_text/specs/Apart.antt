@@ -1,11 +1,10 @@
 -- What is known of an opening whose header text and separator are apart.
-use Rattle.std.specs.Prelude.{ℕ, ◌≡◌, ◌++◌, ⊤, List, [], Some, None, Ok}
+use Rattle.std.specs.Prelude.{ℕ, ◌≡◌, ⊤, List, [], Some, None, Ok}
 use Rattle.std.specs.declared.option.Option.{Option}
 use Rattle.ddr_io.specs.declared.line_reader.Line.{Line}
 use Rattle.ddr_io.specs.declared.line_reader.Line.TheVariants.{Text as TextLine}
 use Rattle.speed_bin.specs.Document.{header_stated}
 use Rattle.speed_bin.specs.Header.{IsAccepted}
-use Rattle.speed_bin.specs.Version.{Figures}
 use Rattle.speed_bin.specs.declared.header.Header.{Header}
 use Rattle.ddr_text.specs.Opening.{Heading, IsReason, Refuses, heading_in, opening_of, opening_text, parts_of, behind, with_feed}
 use Rattle.ddr_text.specs.Separator.{Ends, role_of_line}

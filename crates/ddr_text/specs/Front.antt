@@ -5,7 +5,7 @@ use Rattle.ddr_io.specs.declared.line_reader.Line.{Line}
 use Rattle.ddr_io.specs.declared.line_reader.Line.TheVariants.{Text as TextLine}
 use Rattle.speed_bin.specs.Document.{header_stated}
 use Rattle.speed_bin.specs.Version.{Figures}
-use Rattle.ddr_text.specs.Opening.{IsReason, Accepts, Refuses, judged, heading_in, parts_of, behind, with_feed}
+use Rattle.ddr_text.specs.Opening.{IsReason, Refuses, judged, heading_in, parts_of, behind, with_feed}
 use Rattle.ddr_text.specs.Reason.{HasNumber, number_of}
 use Rattle.ddr_text.specs.Separator.{Ends, role_of_line}
 use Rattle.ddr_text.specs.declared.opening.Front.{Front}

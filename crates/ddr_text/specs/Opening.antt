@@ -1,5 +1,5 @@
 -- How a job begins: its header, and the separator behind it. `docs/FORMATS.md` has the same in words.
-use Rattle.std.specs.Prelude.{ℕ, ◌≡◌, ◌≤◌, ◌+◌, ◌⊎◌, ◌++◌, ◌==◌, ⊤, nat_lt, Bool, if◌then◌else◌, List, [], ◌∷◌, codes, drop, length, Some, None, Result, Ok, Err}
+use Rattle.std.specs.Prelude.{ℕ, ◌≡◌, ◌≤◌, ◌⊎◌, ◌++◌, ◌==◌, ⊤, nat_lt, Bool, if◌then◌else◌, List, [], ◌∷◌, drop, length, Some, None, Result, Ok, Err}
 use Rattle.std.specs.List.{slice_split}
 use Rattle.std.specs.declared.option.Option.{Option}
 use Rattle.ddr_io.specs.Line.{line_feed}

@@ -1,7 +1,6 @@
 use Rattle.std.proofs.Common.{◌≡◌, [], ap, refl, sym, ◌∙◌, subst}
 use Rattle.ddr_text.proofs.CheckNumbers.{refused_header, stated_ok}
 use Rattle.ddr_text.specs.Opening.{Refuses, judged}
-use Rattle.ddr_text.specs.Reason.{number_of}
 use Rattle.speed_bin.specs.Document.{header_stated}
 use Rattle.ddr_text.proofs.opening.judge.Goals as goal
 
