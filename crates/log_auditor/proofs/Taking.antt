@@ -1,5 +1,6 @@
 -- What an auditor stands for after one more line.
-use Rattle.std.proofs.Common.{◌≡◌, ◌∙◌, ℕ, Bool, true, false, Option, Some, None, ◌∷◌, refl, sym, ap, subst}
+use Rattle.std.proofs.Common.{◌≡◌, ◌≢◌, ◌∙◌, ℕ, Bool, true, false, Option, Some, None, ◌∷◌, refl, sym, ap, subst}
+use Rattle.std.proofs.Math.Logic.{∥∥₁_map}
 use Rattle.command_words.specs.declared.command.Command.{Command}
 use Rattle.ddr_text.specs.AcceptedReport.{IsReportLine}
 use Rattle.ddr_text.specs.declared.lines.ReportLine.{ReportLine}
@@ -8,13 +9,15 @@ use Rattle.speed_bin.specs.Header.{shape_of}
 use Rattle.speed_bin.specs.Log.{Log}
 use Rattle.speed_bin.specs.Marks.{RowsInRange, Keeps as KeepsRules}
 use Rattle.speed_bin.specs.Rules.{verdict, verdict_at_end}
+use Rattle.speed_bin.specs.Timing.{IsTiming}
 use Rattle.speed_bin.specs.declared.header.Header.{Header}
 use Rattle.speed_bin.proofs.Audits.{fine_keeps}
 use Rattle.row_activity.specs.Counted.{MayCount}
-use Rattle.log_auditor.specs.Auditing.{Keeps, Parts, StandsFor, Taken, is_open, state_of, told, told_state}
+use Rattle.log_auditor.specs.Auditing.{IsSound, Kept, Keeps, Parts, StandsFor, StandsForSome, Taken, has_ended, geometry_of, is_end, is_ended, is_open, state_of, told, told_state, verdict_so_far}
 use Rattle.log_auditor.specs.Groups.{first_broken, first_broken_at_end}
-use Rattle.log_auditor.specs.declared.auditor.Auditor.{Auditor}
-use Rattle.log_auditor.specs.declared.auditor.State.TheVariants.{Broken, Ended}
+use Rattle.log_auditor.specs.declared.judge.Judge.{Judge}
+use Rattle.log_auditor.specs.declared.judge.State.{State}
+use Rattle.log_auditor.specs.declared.judge.State.TheVariants.{Open, Broken, Ended}
 use Rattle.log_auditor.specs.declared.verdict.Verdict.{Verdict}
 use Rattle.log_auditor.specs.declared.verdict.Verdict.TheVariants.{Fine}
 use Rattle.log_auditor.proofs.Judging.{in_range, now_broken, still_broken, still_ended, still_fine}
@@ -29,14 +32,14 @@ shut_verdict : (v : Option (ℕ × ℕ)) → is_open (state_of v) ≡ false → 
 shut_verdict None e = absurd cc
 shut_verdict (Some breach) e = (breach, refl)
 
-pub fine_so_far : (it : Auditor) (h : Header) (log : Log) → Keeps it h log → is_open it.state ≡ true → verdict h log ≡ None
+pub fine_so_far : (it : Judge) (h : Header) (log : Log) → Keeps it h log → is_open it.state ≡ true → verdict h log ≡ None
 fine_so_far it h log keeps e = open_verdict (verdict h log) (ap is_open (sym keeps.state) ∙ e)
 
 pub told_by_state : (v : Option (ℕ × ℕ)) → told_state (state_of v) ≡ told v
 told_by_state None = refl
 told_by_state (Some breach) = refl
 
-pub told_verdict : (it : Auditor) (h : Header) (log : Log) → Keeps it h log → told_state it.state ≡ told (verdict h log)
+pub told_verdict : (it : Judge) (h : Header) (log : Log) → Keeps it h log → told_state it.state ≡ told (verdict h log)
 told_verdict it h log keeps = ap told_state keeps.state ∙ told_by_state (verdict h log)
 
 told_fine : (v : Option (ℕ × ℕ)) → told v ≡ Fine → v ≡ None
@@ -44,7 +47,7 @@ told_fine None e = refl
 told_fine (Some breach) e = absurd cc
 
 -- a log that is fine keeps the rules on which the bound rests
-pub fine_log : (it : Auditor) (h : Header) (log : Log) → Keeps it h log → told_state it.state ≡ Fine → KeepsRules h log
+pub fine_log : (it : Judge) (h : Header) (log : Log) → Keeps it h log → told_state it.state ≡ Fine → KeepsRules h log
 fine_log it h log keeps e = fine_keeps h log keeps.rows (told_fine (verdict h log) (sym (told_verdict it h log keeps) ∙ e))
 
 -- ---- A command
@@ -52,7 +55,7 @@ fine_log it h log keeps e = fine_keeps h log keeps.rows (told_fine (verdict h lo
 rows_next : (h : Header) (clock : ℕ) (command : Command) (log : Log) → RowsInRange h log → IsReportLine (shape_of h) (Issued clock command) → RowsInRange h (record { clock = clock; command = command } ∷ log)
 rows_next h clock command log rows line = (rows, in_range h command line.1 line.2)
 
-pub may_count : (it : Auditor) (h : Header) (clock : ℕ) (command : Command) (log : Log) → Keeps it h log → is_open it.state ≡ true → IsReportLine (shape_of h) (Issued clock command) → first_broken h clock command log ≡ None → MayCount h clock command log
+pub may_count : (it : Judge) (h : Header) (clock : ℕ) (command : Command) (log : Log) → Keeps it h log → is_open it.state ≡ true → IsReportLine (shape_of h) (Issued clock command) → first_broken h clock command log ≡ None → MayCount h clock command log
 may_count it h clock command log keeps opened line none =
     let fine = fine_so_far it h log keeps opened in
     let kept = fine_keeps h (record { clock = clock; command = command } ∷ log) (rows_next h clock command log keeps.rows line) (still_fine h clock command log fine none) in
@@ -63,12 +66,13 @@ may_count it h clock command log keeps opened line none =
     }
 
 -- it was broken before
-pub keeps_broken : (it : Auditor) (h : Header) (clock : ℕ) (command : Command) (log : Log) → Keeps it h log → is_open it.state ≡ false → IsReportLine (shape_of h) (Issued clock command) → Keeps it h (record { clock = clock; command = command } ∷ log)
+pub keeps_broken : (it : Judge) (h : Header) (clock : ℕ) (command : Command) (log : Log) → Keeps it h log → is_open it.state ≡ false → IsReportLine (shape_of h) (Issued clock command) → Keeps it h (record { clock = clock; command = command } ∷ log)
 keeps_broken it h clock command log keeps shut line =
     let p = shut_verdict (verdict h log) (ap is_open (sym keeps.state) ∙ shut) in
     let later = still_broken h (record { clock = clock; command = command }) log p.0 p.1 in
     record {
       accepted = keeps.accepted;
+      shape = keeps.shape;
       rows = rows_next h clock command log keeps.rows line;
       state = keeps.state ∙ ap state_of (p.1 ∙ sym later);
       parts = λ none. absurd (never (sym later ∙ none));
@@ -78,11 +82,12 @@ keeps_broken it h clock command log keeps shut line =
     never e = cc
 
 -- it breaks a rule now
-pub breaks_now : (it new : Auditor) (h : Header) (clock : ℕ) (command : Command) (log : Log) (number : ℕ) → Keeps it h log → is_open it.state ≡ true → IsReportLine (shape_of h) (Issued clock command) → first_broken h clock command log ≡ Some number → new.state ≡ Broken (record { 0 = number }) → Keeps new h (record { clock = clock; command = command } ∷ log)
-breaks_now it new h clock command log number keeps opened line some is =
+pub breaks_now : (it new : Judge) (h : Header) (clock : ℕ) (command : Command) (log : Log) (number : ℕ) → Keeps it h log → is_open it.state ≡ true → IsReportLine (shape_of h) (Issued clock command) → first_broken h clock command log ≡ Some number → new.geometry ≡ it.geometry → new.state ≡ Broken (record { 0 = number }) → Keeps new h (record { clock = clock; command = command } ∷ log)
+breaks_now it new h clock command log number keeps opened line some shape is =
     let later = now_broken h clock command log number (fine_so_far it h log keeps opened) some in
     record {
       accepted = keeps.accepted;
+      shape = shape ∙ keeps.shape;
       rows = rows_next h clock command log keeps.rows line;
       state = is ∙ ap state_of (sym later);
       parts = λ none. absurd (never (sym later ∙ none));
@@ -92,29 +97,34 @@ breaks_now it new h clock command log number keeps opened line some is =
     never e = cc
 
 -- it breaks none
-pub keeps_on : (it new : Auditor) (h : Header) (clock : ℕ) (command : Command) (log : Log) → Keeps it h log → is_open it.state ≡ true → IsReportLine (shape_of h) (Issued clock command) → first_broken h clock command log ≡ None → new.state ≡ it.state → Parts new h (record { clock = clock; command = command } ∷ log) → Keeps new h (record { clock = clock; command = command } ∷ log)
-keeps_on it new h clock command log keeps opened line none same parts =
+pub keeps_on : (it new : Judge) (h : Header) (clock : ℕ) (command : Command) (log : Log) → Keeps it h log → is_open it.state ≡ true → IsReportLine (shape_of h) (Issued clock command) → first_broken h clock command log ≡ None → new.geometry ≡ it.geometry → new.state ≡ it.state → Parts new h (record { clock = clock; command = command } ∷ log) → Keeps new h (record { clock = clock; command = command } ∷ log)
+keeps_on it new h clock command log keeps opened line none shape same parts =
     let fine = fine_so_far it h log keeps opened in
     let later = still_fine h clock command log fine none in
     record {
       accepted = keeps.accepted;
+      shape = shape ∙ keeps.shape;
       rows = rows_next h clock command log keeps.rows line;
       state = same ∙ keeps.state ∙ ap state_of (fine ∙ sym later);
       parts = λ _. parts;
     }
 
+-- its numbers are in the ranges of the header's shape
+pub line_of_shape : (it : Judge) (h : Header) (log : Log) (line : ReportLine) → Keeps it h log → IsReportLine (geometry_of it) line → IsReportLine (shape_of h) line
+line_of_shape it h log line keeps inside = subst (λ g. IsReportLine g line) keeps.shape inside
+
 -- ---- The end
 
-pub end_broken_before : (it : Auditor) (h : Header) (clock : ℕ) (log : Log) → Keeps it h log → is_open it.state ≡ false → told_state it.state ≡ told (verdict_at_end h clock log)
+pub end_broken_before : (it : Judge) (h : Header) (clock : ℕ) (log : Log) → Keeps it h log → is_open it.state ≡ false → told_state it.state ≡ told (verdict_at_end h clock log)
 end_broken_before it h clock log keeps shut =
     let p = shut_verdict (verdict h log) (ap is_open (sym keeps.state) ∙ shut) in
     told_verdict it h log keeps ∙ ap told (p.1 ∙ sym (still_ended h clock log p.0 p.1))
 
-pub end_breaks : (it : Auditor) (h : Header) (clock : ℕ) (log : Log) (number : ℕ) → Keeps it h log → is_open it.state ≡ true → first_broken_at_end h clock log ≡ Some number → told_state (Broken (record { 0 = number })) ≡ told (verdict_at_end h clock log)
+pub end_breaks : (it : Judge) (h : Header) (clock : ℕ) (log : Log) (number : ℕ) → Keeps it h log → is_open it.state ≡ true → first_broken_at_end h clock log ≡ Some number → told_state (Broken (record { 0 = number })) ≡ told (verdict_at_end h clock log)
 unfolding first_broken_at_end
 end_breaks it h clock log number keeps opened some = let fine = fine_so_far it h log keeps opened in rw (fine, some) refl
 
-pub end_fine : (it : Auditor) (h : Header) (clock : ℕ) (log : Log) → Keeps it h log → is_open it.state ≡ true → first_broken_at_end h clock log ≡ None → told_state Ended ≡ told (verdict_at_end h clock log)
+pub end_fine : (it : Judge) (h : Header) (clock : ℕ) (log : Log) → Keeps it h log → is_open it.state ≡ true → first_broken_at_end h clock log ≡ None → told_state Ended ≡ told (verdict_at_end h clock log)
 unfolding first_broken_at_end
 end_fine it h clock log keeps opened none = let fine = fine_so_far it h log keeps opened in rw (fine, none) refl
 
@@ -128,14 +138,14 @@ is_other (Flip clock line device bit) = true
 is_other (Stat name number) = true
 is_other (Refused line reason) = true
 
-pub taken_issued : (line : ReportLine) (clock : ℕ) (command : Command) (new : Auditor) (h : Header) (log : Log) (answer : Verdict) → line ≡ Issued clock command → Keeps new h (record { clock = clock; command = command } ∷ log) → answer ≡ told_state new.state → Taken line new h log answer
+pub taken_issued : (line : ReportLine) (clock : ℕ) (command : Command) (new : Judge) (h : Header) (log : Log) (answer : Verdict) → line ≡ Issued clock command → Keeps new h (record { clock = clock; command = command } ∷ log) → answer ≡ told_state new.state → Taken line new h log answer
 unfolding StandsFor
 taken_issued line clock command new h log answer is keeps says = subst (λ (l : ReportLine). Taken l new h log answer) (sym is) (keeps, says ∙ told_verdict new h (record { clock = clock; command = command } ∷ log) keeps)
 
-pub taken_end : (line : ReportLine) (clock : ℕ) (new : Auditor) (h : Header) (log : Log) (answer : Verdict) → line ≡ End clock → told_state new.state ≡ told (verdict_at_end h clock log) → answer ≡ told_state new.state → Taken line new h log answer
+pub taken_end : (line : ReportLine) (clock : ℕ) (new : Judge) (h : Header) (log : Log) (answer : Verdict) → line ≡ End clock → told_state new.state ≡ told (verdict_at_end h clock log) → answer ≡ told_state new.state → Taken line new h log answer
 taken_end line clock new h log answer is ends says = subst (λ (l : ReportLine). Taken l new h log answer) (sym is) (says ∙ ends)
 
-pub taken_other : (line : ReportLine) (new : Auditor) (h : Header) (log : Log) (answer : Verdict) → Keeps new h log → answer ≡ told_state new.state → is_other line ≡ true → Taken line new h log answer
+pub taken_other : (line : ReportLine) (new : Judge) (h : Header) (log : Log) (answer : Verdict) → Keeps new h log → answer ≡ told_state new.state → is_other line ≡ true → Taken line new h log answer
 unfolding StandsFor
 taken_other (Issued clock command) new h log answer keeps says other = absurd cc
 taken_other (End clock) new h log answer keeps says other = absurd cc
@@ -143,3 +153,81 @@ taken_other (Value number line bytes state) new h log answer keeps says other = 
 taken_other (Flip clock line device bit) new h log answer keeps says other = (keeps, says ∙ told_verdict new h log keeps)
 taken_other (Stat name number) new h log answer keeps says other = (keeps, says ∙ told_verdict new h log keeps)
 taken_other (Refused line reason) new h log answer keeps says other = (keeps, says ∙ told_verdict new h log keeps)
+
+-- ---- What every line keeps
+
+never_open : (s : State) → is_open s ≡ false → is_open s ≡ true → ⊥
+never_open s shut opened = let both : true ≡ false = sym opened ∙ shut in cc
+
+never_ended : (s : State) → is_ended s ≡ false → is_ended s ≡ true → ⊥
+never_ended s going ends = let both : true ≡ false = sym ends ∙ going in cc
+
+was_open : (old new : Judge) → (is_open old.state ≡ false → new.state ≡ old.state) → is_open new.state ≡ true → is_open old.state ≡ true
+was_open old new stays opened = go (is_open old.state) refl
+  where
+    go : (t : Bool) → is_open old.state ≡ t → is_open old.state ≡ true
+    go true e = e
+    go false e = absurd (never_open old.state e (ap is_open (sym (stays e)) ∙ opened))
+
+pub kept_issued : (line : ReportLine) (clock : ℕ) (command : Command) (old new : Judge) → IsSound old → is_ended old.state ≡ false → new.timing ≡ old.timing → new.geometry ≡ old.geometry → (is_open old.state ≡ false → new.state ≡ old.state) → (is_ended old.state ≡ false → is_ended new.state ≡ false)
+    → ((h : Header) (log : Log) → Keeps old h log → Keeps new h (record { clock = clock; command = command } ∷ log)) → Kept line old new
+unfolding StandsFor
+kept_issued line clock command old new sound going timing geometry stays goes_on keeps = record {
+  sound = record {
+    timing = subst IsTiming (sym timing) sound.timing;
+    some = λ opened. ∥∥₁_map (sound.some (was_open old new stays opened)) (λ p. (p.0, record { clock = clock; command = command } ∷ p.1, keeps p.0 p.1 p.2));
+  };
+  geometry = geometry;
+  stays = stays;
+  ended = λ ends. absurd (never_ended new.state (goes_on going) ends);
+}
+
+pub kept_end : (line : ReportLine) (clock : ℕ) (old new : Judge) → line ≡ End clock → IsSound old → new.timing ≡ old.timing → new.geometry ≡ old.geometry → (is_open old.state ≡ false → new.state ≡ old.state) → is_open new.state ≡ false → Kept line old new
+kept_end line clock old new is sound timing geometry stays shut = record {
+  sound = record { timing = subst IsTiming (sym timing) sound.timing; some = λ opened. absurd (never_open new.state shut opened) };
+  geometry = geometry;
+  stays = stays;
+  ended = λ ends. ap is_end is;
+}
+
+pub kept_other : (line : ReportLine) (it : Judge) → IsSound it → is_ended it.state ≡ false → Kept line it it
+kept_other line it sound going = record {
+  sound = sound;
+  geometry = refl;
+  stays = λ shut. refl;
+  ended = λ ends. absurd (never_ended it.state going ends);
+}
+
+-- ---- What a caller knows
+
+shut_told : (s : State) → told_state s ≢ Fine → is_open s ≡ false
+shut_told Open breaks = absurd (breaks refl)
+shut_told (Broken rule) breaks = refl
+shut_told Ended breaks = refl
+
+pub told_again : (line : ReportLine) (old new : Judge) (answer : Verdict) → Kept line old new → answer ≡ told_state new.state → told_state old.state ≢ Fine → answer ≡ told_state old.state
+told_again line old new answer kept says breaks = says ∙ ap told_state (kept.stays (shut_told old.state breaks))
+
+open_state : (s : State) → is_ended s ≡ false → told_state s ≡ Fine → is_open s ≡ true
+open_state Open going fine = refl
+open_state (Broken rule) going fine = absurd cc
+open_state Ended going fine = absurd cc
+
+pub stands_for_some : (it : Judge) → IsSound it → has_ended it ≡ false → verdict_so_far it ≡ Fine → StandsForSome it
+stands_for_some it sound going fine = sound.some (open_state it.state going fine)
+
+verdict_goes_on : (v : Option (ℕ × ℕ)) → is_ended (state_of v) ≡ false
+verdict_goes_on None = refl
+verdict_goes_on (Some breach) = refl
+
+-- an auditor that stands for a log takes each line of its header's shape
+pub goes_on : (it : Judge) (h : Header) (log : Log) → StandsFor it h log → has_ended it ≡ false
+unfolding StandsFor
+goes_on it h log keeps = ap is_ended keeps.state ∙ verdict_goes_on (verdict h log)
+
+pub has_shape : (it : Judge) (h : Header) (log : Log) → StandsFor it h log → geometry_of it ≡ shape_of h
+unfolding StandsFor
+has_shape it h log keeps = keeps.shape
+
+pub line_inside : (it : Judge) (h : Header) (log : Log) (line : ReportLine) → StandsFor it h log → IsReportLine (shape_of h) line → IsReportLine (geometry_of it) line
+line_inside it h log line stands inside = subst (λ g. IsReportLine g line) (sym (has_shape it h log stands)) inside

@@ -1,57 +1,37 @@
 //! The auditor: the rules of a log, one line of its report after another.
-ghost use Rattle.std.specs.Prelude.{ℕ, ◌≡◌, ◌<◌, ◌≤◌, ◌^◌, ◌∷◌, [], ◌&&◌, None, IfOk, is_none, length, nat_le, slice_get};
-ghost use Rattle.command_words.specs.declared.command.Command.{Command as AnyCommand};
+ghost use Rattle.std.specs.Prelude.{ℕ, ◌≡◌, ◌≢◌, ◌<◌, ◌≤◌, [], false, true, IfOk};
 ghost use Rattle.ddr_text.specs.AcceptedReport.{IsReportLine};
-ghost use Rattle.speed_bin.specs.Alert.{alert};
 ghost use Rattle.speed_bin.specs.Counters.{acts};
 ghost use Rattle.speed_bin.specs.Header.{IsAccepted, bound as bound_of, shape_of};
 ghost use Rattle.speed_bin.specs.Log.{Log};
-ghost use Rattle.speed_bin.specs.Rules.{first_failing, all_closed, is_write, rule_1, rule_14, verdict_at_end};
 ghost use Rattle.speed_bin.specs.declared.header.Header.{Header as AnyHeader};
-ghost use Rattle.bank_state.specs.Standing.{StandsFor as BanksFor};
-ghost use Rattle.row_activity.specs.Counted.{MayCount};
-ghost use Rattle.row_activity.specs.Standing.{StandsFor as ActivityFor, MayIssue};
-ghost use Rattle.log_auditor.specs.Groups.{first_broken, first_broken_at_end};
-ghost use Rattle.log_auditor.specs.Ledger.{Follows};
-ghost use Rattle.log_auditor.specs.Auditing.{Parts, Keeps, StandsFor, Taken, told, told_state, is_open as is_open_state, write_of as write_in};
+ghost use Rattle.log_auditor.specs.Auditing.{StandsFor, StandsForSome, Taken, geometry_of, has_ended, is_end, verdict_so_far};
 
-use crate::ledger::Ledger;
-use crate::rules::{alert_rule, bank_rule, count_rule, failing, until};
-use crate::{Rule, Verdict};
-use arrayvec::ArrayVec;
-use backoff::laws::bound;
-use bank_state::Banks;
-use command_words::{Command, Mrw};
+use crate::Verdict;
+use crate::judge::Judge;
+use command_words::Geometry;
 use ddr_io::OutOfMemory;
 use ddr_text::ReportLine;
-use mode_registers::writes;
-use row_activity::Activity;
-use speed_bin::{Header, Settings, Timing};
+use speed_bin::Header;
 use std::alloc::Global;
+use std::marker::Model;
 
-/// Judges the commands of a report by the rules of `docs/RULES.md`, one line after another. It keeps no list of them.
+/// Judges the commands of a report by the rules of `docs/RULES.md`, one line after another. It keeps no list of them,
+/// and yet there is one for which it stands as long as no rule is broken and no end was taken.
 #[derive(Drop)]
 pub struct Auditor {
-    timing: Timing,
-    settings: Settings,
-    // The register writes that a log begins with.
-    writes: ArrayVec<Mrw, 8>,
-    // How many commands were taken, and 8 where there were more.
-    places: usize,
-    ledger: Ledger,
-    activity: Activity,
-    state: State,
+    judge: Judge,
 }
 
-/// How far an audit is.
-#[derive(Clone, Copy, Debug, PartialEq, Eq)]
-pub(crate) enum State {
-    /// No rule was broken, and no end was taken.
-    Open,
-    /// This rule was broken.
-    Broken(Rule),
-    /// The end was taken, and no rule was broken.
-    Ended,
+impl Model for Auditor {
+    ghost use Rattle.log_auditor.specs.Auditing.{IsSound};
+    ghost use Rattle.log_auditor.specs.declared.judge.Judge.{Judge};
+
+    ghost Value = { Judge };
+
+    ghost view = { λ a. a.judge };
+
+    ghost invariant = { λ a. IsSound a.judge };
 }
 
 impl Auditor {
@@ -59,219 +39,56 @@ impl Auditor {
     ///
     /// # Errors
     /// Want of memory.
-    #[tactic(auto, unfolding(crate::specs::Auditing::StandsFor))]
     pub fn new(alloc: Global, header: &Header) -> Result<Auditor, OutOfMemory>
         requires { IsAccepted header.now }
-        ensures { IfOk result (λ auditor. StandsFor auditor header.now []) }
+        ensures stands { IfOk result (λ auditor. StandsFor auditor header.now []) }
+        ensures geometry { IfOk result (λ auditor. geometry_of auditor ≡ shape_of header.now) }
+        ensures going_on { IfOk result (λ auditor. has_ended auditor ≡ false) }
     {
-        let ledger = Ledger::new(alloc, header)?;
-        let activity = Activity::new(alloc, header)?;
         Ok(Auditor {
-            timing: header.timing,
-            settings: header.settings,
-            writes: writes(&header.settings),
-            places: 0,
-            ledger,
-            activity,
-            state: State::Open,
+            judge: Judge::new(alloc, header)?,
         })
+    }
+
+    /// The shape of the subchannel, in which the numbers of the lines are.
+    pub fn geometry(&self) -> Geometry
+        ensures geometry { result ≡ geometry_of self.now }
+        ensures shape { (h : AnyHeader) (log : Log) → StandsFor self.now h log → result ≡ shape_of h }
+    {
+        self.judge.geometry()
+    }
+
+    /// Whether an E line was taken, and no rule was broken.
+    pub fn has_ended(&self) -> bool
+        ensures ended { result ≡ has_ended self.now }
+        ensures going_on { (h : AnyHeader) (log : Log) → StandsFor self.now h log → result ≡ false }
+
+        // As long as no rule is broken and no end was taken, there is a log for which it stands.
+        ensures stands { has_ended self.now ≡ false → verdict_so_far self.now ≡ Verdict.Fine → StandsForSome self.now }
+    {
+        self.judge.has_ended()
     }
 
     /// Takes the next line of a report, and says what holds of the log so far: a C line is its next place, and an E line
     /// its end. Once a rule is broken, every later answer is the same. The numbers of the line are in the ranges of
-    /// `docs/FORMATS.md`, and no E line was taken before.
-    #[tactic(auto, unfolding(crate::specs::Auditing::StandsFor))]
+    /// `docs/FORMATS.md`, and no E line was taken without fault before.
     pub fn take(&mut self, line: &ReportLine) -> Verdict
-        requires { (h : AnyHeader) × (log : Log) × StandsFor self.old h log × IsReportLine (shape_of h) line.now }
-        ensures taken { (h : AnyHeader) (log : Log) → StandsFor self.old h log → IsReportLine (shape_of h) line.now → Taken line.now self.new h log result }
+        requires going_on { has_ended self.old ≡ false }
+        requires inside { IsReportLine (geometry_of self.old) line.now }
+        ensures taken { (h : AnyHeader) (log : Log) → StandsFor self.old h log → Taken line.now self.new h log result }
+
+        // A rule that is broken stays the answer.
+        ensures so_far { result ≡ verdict_so_far self.new }
+        ensures stays { verdict_so_far self.old ≢ Verdict.Fine → result ≡ verdict_so_far self.old }
+
+        // Only an E line ends a log, and only where no rule is broken.
+        ensures ended { has_ended self.new ≡ true → is_end line.now ≡ true }
+        ensures geometry { geometry_of self.new ≡ geometry_of self.old }
 
         // No row of a log that was taken without fault has more activations since its last mitigation than the bound.
         ensures bounded { (h : AnyHeader) (log : Log) (b row : ℕ) → StandsFor self.new h log → result ≡ Verdict.Fine → b < 32 → row < h.settings.rows
             → acts h b row log ≤ bound_of h }
     {
-        bound();
-        match line {
-            ReportLine::Issued(clock, command) => self.take_command(*clock, command),
-            ReportLine::End(clock) => self.take_end(*clock),
-            ReportLine::Value(_, _, _, _) => {}
-            ReportLine::Flip(_, _, _, _) => {}
-            ReportLine::Stat(_, _) => {}
-            ReportLine::Refused(_, _) => {}
-        }
-        self.verdict()
-    }
-
-    // What the state says.
-    fn verdict(&self) -> Verdict
-        ensures { result ≡ told_state self.now.state }
-    {
-        match self.state {
-            State::Open => Verdict::Fine,
-            State::Broken(rule) => Verdict::Breaks(rule),
-            State::Ended => Verdict::Fine,
-        }
-    }
-
-    fn is_open(&self) -> bool
-        ensures { result ≡ is_open_state self.now.state }
-    {
-        match self.state {
-            State::Open => true,
-            State::Broken(_) => false,
-            State::Ended => false,
-        }
-    }
-
-    // Takes a command.
-    fn take_command(&mut self, clock: u64, command: &Command)
-        requires { (h : AnyHeader) × (log : Log) × Keeps self.old h log × IsReportLine (shape_of h) (ReportLine.Issued clock command.now) }
-        ensures { (h : AnyHeader) (log : Log) → Keeps self.old h log → IsReportLine (shape_of h) (ReportLine.Issued clock command.now)
-            → Keeps self.new h (record { clock = clock; command = command.now } ∷ log) }
-    {
-        if self.is_open() {
-            match self.broken(clock, command) {
-                Some(number) => self.state = State::Broken(Rule(number)),
-                None => self.append(clock, command),
-            }
-        }
-    }
-
-    // Takes the end.
-    fn take_end(&mut self, clock: u64)
-        requires { (h : AnyHeader) × (log : Log) × Keeps self.old h log × (clock < 2 ^ 48) }
-        ensures { (h : AnyHeader) (log : Log) → Keeps self.old h log → told_state self.new.state ≡ told (verdict_at_end h clock log) }
-    {
-        if self.is_open() {
-            match self.broken_at_end(clock) {
-                Some(rule) => self.state = State::Broken(Rule(rule)),
-                None => self.state = State::Ended,
-            }
-        }
-    }
-
-    // Appends a command that breaks no rule.
-    fn append(&mut self, clock: u64, command: &Command)
-        requires in_range { clock < 2 ^ 48 }
-        requires may { (h : AnyHeader) × (log : Log) × Parts self.old h log × MayCount h clock command.now log × Follows h clock command.now log }
-        ensures parts { (h : AnyHeader) (log : Log) → Parts self.old h log → MayCount h clock command.now log → Follows h clock command.now log
-            → Parts self.new h (record { clock = clock; command = command.now } ∷ log) }
-        ensures state { self.new.state ≡ self.old.state }
-    {
-        count(
-            &mut self.activity,
-            clock,
-            command,
-            &self.ledger.banks,
-            &self.settings,
-        );
-        self.ledger.issue(clock, command);
-        if self.places < 8 {
-            self.places += 1;
-        }
-    }
-
-    // The least rule that the command breaks.
-    fn broken(&self, clock: u64, command: &Command) -> Option<u8>
-        requires in_range { clock < 2 ^ 48 }
-        requires parts { (h : AnyHeader) × (log : Log) × IsAccepted h × Parts self.now h log }
-        ensures { (h : AnyHeader) (log : Log) → Parts self.now h log → result ≡ first_broken h clock command.now log }
-    {
-        let raised = self.activity.alert().raised().is_some();
-        self.ledger
-            .gate
-            .broken(clock, command)
-            .or(bank_rule(&self.ledger.banks, command))
-            .or(self.ledger.plan.broken(command, clock))
-            .or(count_rule(&self.ledger.raa, self.settings.raaimt, raised, command))
-            .or(alert_rule(self.activity.alert(), &self.timing, clock, command))
-            .or(self.write_rule(command))
-    }
-
-    // The least rule that an end breaks.
-    fn broken_at_end(&self, clock: u64) -> Option<u8>
-        requires in_range { clock < 2 ^ 48 }
-        requires parts { (h : AnyHeader) × (log : Log) × IsAccepted h × Parts self.now h log }
-        ensures { (h : AnyHeader) (log : Log) → Parts self.now h log → result ≡ first_broken_at_end h clock log }
-    {
-        let in_time = until(clock, self.activity.alert().deadline(&self.timing));
-        failing(self.is_last(clock), 1)
-            .or(failing(self.ledger.plan.allowed_at_end(clock), 6))
-            .or(failing(in_time, 13))
-            .or(failing(self.is_complete(), 14))
-    }
-
-    // Whether the clock is above those of all commands.
-    fn is_last(&self, clock: u64) -> bool
-        requires parts { (h : AnyHeader) × (log : Log) × Parts self.now h log }
-        ensures { (h : AnyHeader) (log : Log) → Parts self.now h log → result ≡ rule_1 clock log }
-    {
-        self.ledger.gate.broken(clock, &Command::Nop) != Some(1)
-    }
-
-    // Whether the register writes were made, all banks are closed, and no alert is raised.
-    fn is_complete(&self) -> bool
-        ensures { (h : AnyHeader) (log : Log) → Parts self.now h log → result ≡ (nat_le 8 (length log) && (all_closed log && is_none (alert h log))) }
-    {
-        let closed = self.ledger.banks.all_closed();
-        let calm = self.activity.alert().raised().is_none();
-        8 <= self.places && closed && calm
-    }
-
-    // Rule 14: the register writes come first, and no other.
-    fn write_rule(&self, command: &Command) -> Option<u8>
-        ensures { (h : AnyHeader) (log : Log) → Parts self.now h log → result ≡ first_failing 14 (rule_14 h command.now log ∷ []) }
-    {
-        let holds = match write_of(command) {
-            Some(write) => self.is_due(write),
-            None => 8 <= self.places,
-        };
-        failing(holds, 14)
-    }
-
-    // Whether the write is the one that is due.
-    fn is_due(&self, write: Mrw) -> bool
-        ensures { result ≡ is_write write (slice_get self.now.writes.items self.now.places) }
-    {
-        match self.writes.get(self.places) {
-            Some(due) => write.address == due.address && write.value == due.value,
-            None => false,
-        }
-    }
-}
-
-// Counts a command under these settings, where these are the open rows before it.
-fn count(
-    activity: &mut Activity,
-    clock: u64,
-    command: &Command,
-    open_rows: &Banks,
-    settings: &Settings,
-)
-    requires { MayIssue activity.old open_rows.now clock command.now }
-    ensures { (h : AnyHeader) (log : Log) → ActivityFor activity.old h log → BanksFor open_rows.now log → MayCount h clock command.now log
-        → settings.now ≡ h.settings
-        → ActivityFor activity.new h (record { clock = clock; command = command.now } ∷ log) }
-{
-    activity.issue(clock, command, open_rows, Some(*settings));
-}
-
-// The register write that the command is, if it is one.
-fn write_of(command: &Command) -> Option<Mrw>
-    ensures { result ≡ write_in command.now }
-{
-    match command {
-        Command::Mrw(write) => Some(*write),
-        Command::Act(_, _) => None,
-        Command::Rd(_, _) => None,
-        Command::Wr(_, _) => None,
-        Command::PrePb(_) => None,
-        Command::PreSb(_) => None,
-        Command::PreAb => None,
-        Command::RefAb => None,
-        Command::RefSb(_) => None,
-        Command::RfmAb => None,
-        Command::RfmSb(_) => None,
-        Command::Ecs => None,
-        Command::Nop => None,
+        self.judge.take(line)
     }
 }

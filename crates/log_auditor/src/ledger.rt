@@ -42,7 +42,7 @@ impl Ledger {
     // Appends a command.
     pub(crate) fn issue(&mut self, clock: u64, command: &Command)
         requires in_range { clock < 2 ^ 48 }
-        requires may { (h : AnyHeader) × (log : Log) × LedgerKeeps self.old h log × Follows h clock command.now log }
+        requires may { ∥ ((h : AnyHeader) × (log : Log) × LedgerKeeps self.old h log × Follows h clock command.now log) ∥₁ }
         ensures { (h : AnyHeader) (log : Log) → LedgerKeeps self.old h log → Follows h clock command.now log
             → LedgerKeeps self.new h (record { clock = clock; command = command.now } ∷ log) }
     {

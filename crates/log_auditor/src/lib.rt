@@ -4,6 +4,7 @@
 mod audit_loop;
 mod auditor;
 mod finding;
+mod judge;
 mod ledger;
 mod report_reader;
 mod rules;

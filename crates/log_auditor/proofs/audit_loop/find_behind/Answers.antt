@@ -13,7 +13,7 @@ loop-line-init g c = record {
   read = (
     [],
     first_reads c.args.header.now c.in-Ok.auditor c.new-lines.result c.args.reader (g.S.Source.left c.args.source.now)
-        (c.new-lines.ensures ∙ ap (λ (s : Shape). record { reader = c.args.reader; shape = s; stage = Body; number = 1 }) c.geometry.ensures) c.requires.going_on c.in-Ok.ensures,
+        (c.new-lines.ensures ∙ ap (λ (s : Shape). record { reader = c.args.reader; shape = s; stage = Body; number = 1 }) c.geometry.ensures) c.requires.going_on c.in-Ok.ensures.stands,
   );
   kept = refl;
 }

@@ -1,16 +1,17 @@
+use Rattle.std.proofs.Math.Logic.{∥∥₁_map}
 use Rattle.log_auditor.proofs.ledger.Ledger.issue.Goals as goal
 
 pub issue-requires-clause-follows : goal.issue-requires-clause-follows
-issue-requires-clause-follows c = let m = c.requires.may in ∣ (m.0.timing, m.1, m.2.gate, m.3.spaced) ∣₁
+issue-requires-clause-follows c = ∥∥₁_map c.requires.may (λ m. (m.0.timing, m.1, m.2.gate, m.3.spaced))
 
 pub issue-requires-2 : goal.issue-requires-2
-issue-requires-2 c = let m = c.requires.may in ∣ (m.1, m.2.banks, m.3.fits) ∣₁
+issue-requires-2 c = ∥∥₁_map c.requires.may (λ m. (m.1, m.2.banks, m.3.fits))
 
 pub issue-requires-3-clause-allowed : goal.issue-requires-3-clause-allowed
-issue-requires-3-clause-allowed c = let m = c.requires.may in ∣ (m.0, m.1, m.2.plan, m.3.allowed) ∣₁
+issue-requires-3-clause-allowed c = ∥∥₁_map c.requires.may (λ m. (m.0, m.1, m.2.plan, m.3.allowed))
 
 pub issue-requires-4 : goal.issue-requires-4
-issue-requires-4 c = let m = c.requires.may in ∣ (m.0, m.1, m.2.raa, m.3.counted) ∣₁
+issue-requires-4 c = ∥∥₁_map c.requires.may (λ m. (m.0, m.1, m.2.raa, m.3.counted))
 
 pub returns : goal.returns
 returns c = λ h log keeps follows. record {

@@ -5,7 +5,7 @@ use Rattle.speed_bin.specs.Gap.{n_tail}
 use Rattle.speed_bin.specs.Rules.{after, all_closed, is_on_time, rule_1, rule_13, until}
 use Rattle.speed_bin.specs.declared.timing.Timing.{Timing}
 use Rattle.log_auditor.proofs.Judging.{end_broken_is}
-use Rattle.log_auditor.proofs.auditor.Auditor.broken_at_end.Goals as goal
+use Rattle.log_auditor.proofs.judge.Judge.broken_at_end.Goals as goal
 
 pub returns : goal.returns
 returns c = λ h log parts.

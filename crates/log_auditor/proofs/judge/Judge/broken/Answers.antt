@@ -2,7 +2,7 @@ use Rattle.std.proofs.Common.{◌∙◌, ap}
 use Rattle.std.specs.Option.{is_some}
 use Rattle.speed_bin.specs.declared.settings.Settings.{Settings}
 use Rattle.log_auditor.proofs.Judging.{broken_is}
-use Rattle.log_auditor.proofs.auditor.Auditor.broken.Goals as goal
+use Rattle.log_auditor.proofs.judge.Judge.broken.Goals as goal
 
 pub returns : goal.returns
 returns c = λ h log parts.
