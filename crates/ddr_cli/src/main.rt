@@ -11,6 +11,7 @@ mod fault;
 mod fault_tests;
 mod form;
 pub mod laws;
+mod lent_output;
 mod made_run;
 mod run;
 mod showing;

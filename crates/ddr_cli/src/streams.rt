@@ -2,9 +2,11 @@
 ghost use Rattle.std.specs.Prelude.{◌≡◌, ◌≢◌, ◌↔◌};
 ghost use Rattle.ddr_cli.specs.Words.{IsAudit, IsListed, Makes};
 
+use crate::lent_output::{LentOutput, Prompting};
 use crate::{finish, form_of, run};
 use ddr_io::{RealSink, RealSource, Status};
 use std::alloc::Global;
+use std::cell::RefCell;
 use std::io::{BufWriter, Read, Write};
 
 /// Does all that the program does, on a reader and a writer. `words` are those of the command line, without the program's
@@ -27,7 +29,7 @@ pub fn run_on_streams<R: Read, W: Write>(
     }
 }
 
-// Does what the words ask for. What is written goes through a buffer, which is handed on at the end.
+// Does what the words ask for. What is written goes through a buffer, which is handed on before each read and at the end.
 fn run_buffered<R: Read, W: Write>(
     alloc: Global,
     words: &[String],
@@ -39,12 +41,27 @@ fn run_buffered<R: Read, W: Write>(
     ensures made_unread { Makes words.now → reader.new ≡ reader.old }
     ensures broken { result ≡ Status.Broken → IsAudit words.now }
 {
-    let mut out = match BufWriter::new(alloc, writer) {
-        Ok(out) => out,
+    let out = match BufWriter::new(alloc, writer) {
+        Ok(out) => RefCell::new(out),
         Err(_) => return Status::OutOfMemory,
     };
-    let mut source = RealSource::new(reader);
-    let mut sink = RealSink::new(&mut out);
-    let status = run(alloc, words, &mut source, &mut sink);
-    finish(status, &mut out)
+    let status = run_prompting(alloc, words, reader, &out);
+    finish(status, &mut out.into_inner())
+}
+
+// Does what the words ask for, on an output that is handed on before each read.
+fn run_prompting<R: Read, W: Write + Drop>(
+    alloc: Global,
+    words: &[String],
+    reader: &mut R,
+    out: &RefCell<BufWriter<W>>,
+) -> Status
+    requires { IsListed words.now }
+    ensures usage { result ≢ Status.Usage }
+    ensures made_unread { Makes words.now → reader.new ≡ reader.old }
+    ensures broken { result ≡ Status.Broken → IsAudit words.now }
+{
+    let mut source = RealSource::new(Prompting { reader, out });
+    let mut sink = RealSink::new(LentOutput { out });
+    run(alloc, words, &mut source, &mut sink)
 }
