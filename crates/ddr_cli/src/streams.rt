@@ -2,8 +2,8 @@
 ghost use Rattle.std.specs.Prelude.{◌≡◌, ◌≢◌, ◌↔◌};
 ghost use Rattle.ddr_cli.specs.Words.{IsAudit, IsListed, Makes};
 
-use crate::lent_output::{LentOutput, Prompting};
-use crate::{finish, form_of, run};
+use crate::lent_output::{LentOutput, Output, Prompting};
+use crate::{at_end, finish, form_of, run};
 use ddr_io::{RealSink, RealSource, Status};
 use std::alloc::Global;
 use std::cell::RefCell;
@@ -42,11 +42,16 @@ fn run_buffered<R: Read, W: Write>(
     ensures broken { result ≡ Status.Broken → IsAudit words.now }
 {
     let out = match BufWriter::new(alloc, writer) {
-        Ok(out) => RefCell::new(out),
+        Ok(writer) => RefCell::new(Output {
+            writer,
+            has_failed: false,
+        }),
         Err(_) => return Status::OutOfMemory,
     };
     let status = run_prompting(alloc, words, reader, &out);
-    finish(status, &mut out.into_inner())
+    let mut out = out.into_inner();
+    let ended = finish(status, &mut out.writer);
+    at_end(ended, !out.has_failed)
 }
 
 // Does what the words ask for, on an output that is handed on before each read.
@@ -54,7 +59,7 @@ fn run_prompting<R: Read, W: Write + Drop>(
     alloc: Global,
     words: &[String],
     reader: &mut R,
-    out: &RefCell<BufWriter<W>>,
+    out: &RefCell<Output<W>>,
 ) -> Status
     requires { IsListed words.now }
     ensures usage { result ≢ Status.Usage }
