@@ -117,7 +117,8 @@ fn each_fault_has_its_run(rt: HostRuntime) -> Result<(), Fail> {
         (&["gen", "1", "1"], b"", NO_WRITE, Status::WriteFault),
         (&["replay"], JOB, NO_FLUSH, Status::WriteFault),
         (&["audit"], REPORT, NO_FLUSH, Status::WriteFault),
-        (&["replay"], JOB, (true, false, true), Status::ReadFault),
+        // The output is handed on before the read that fails.
+        (&["replay"], JOB, (true, false, true), Status::WriteFault),
     ];
     for (words, bytes, fails, want) in rows {
         assert_eq!(rt; status_of(rt.alloc(), words, bytes, fails)?, want);
