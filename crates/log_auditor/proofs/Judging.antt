@@ -1,5 +1,5 @@
 -- The least rule that fails, by what decides the rules; and what a log without a breach keeps.
-use Rattle.std.proofs.Common.{◌*◌, lt-ltb, ◌≡◌, ◌∙◌, ℕ, suc, Bool, true, false, nat_lt, Option, Some, None, List, [], ◌∷◌, length, refl, sym, ap, arith, ltb-true}
+use Rattle.std.proofs.Common.{◌*◌, lt-ltb, ◌≡◌, ◌∙◌, ℕ, suc, Bool, true, false, nat_lt, Option, Some, None, List, [], ◌∷◌, ◌++◌, length, refl, sym, ap, arith, ltb-true}
 use Rattle.speed_bin.proofs.Tests.{both, joined}
 use Rattle.command_words.specs.declared.place.Bank.{Bank}
 use Rattle.command_words.specs.Command.{bank_number, IsBank, IsInRange}
@@ -7,65 +7,56 @@ use Rattle.std.specs.Option.{option_or}
 use Rattle.command_words.specs.declared.command.Command.{Command}
 use Rattle.command_words.specs.declared.command.Command.TheVariants.{Act, Rd, Wr, PrePb, PreSb, PreAb, RefAb, RefSb, RfmAb, RfmSb, Mrw, Ecs, Nop}
 use Rattle.ddr_text.specs.ReportGrammar.{has_place}
-use Rattle.refresh_plan.specs.Standing.{refresh_rules}
 use Rattle.speed_bin.specs.Log.{Log, Issued}
 use Rattle.speed_bin.specs.Marks.{is_bank, is_in_range}
-use Rattle.speed_bin.specs.Rules.{first_failing, rule_1, rule_2, rule_3, rule_4, rule_5, rule_6, rule_7, rule_8, rule_9, rule_10, rule_11, rule_12, rule_13, rule_14, rules_at_end, verdict, verdict_at_end}
+use Rattle.speed_bin.specs.Rules.{first_failing, rule_1, rule_11, rule_12, rule_13, rule_14, rules_at_end, verdict, verdict_at_end}
 use Rattle.speed_bin.specs.declared.header.Header.{Header}
-use Rattle.timing_rules.specs.Spaced.{spacing_rules}
 use Rattle.speed_bin.specs.Header.{shape_of}
-use Rattle.log_auditor.specs.Groups.{alert_rules, bank_rules, count_rules, first_broken, first_broken_at_end}
-use Rattle.log_auditor.specs.Ledger.{Follows}
+use Rattle.log_ledger.proofs.Grouped.{assoc, follows as follows_ten}
+use Rattle.log_ledger.specs.Standing.{Follows, first_of_ten, ten_rules}
+use Rattle.log_auditor.specs.Groups.{alert_rules, first_broken, first_broken_at_end}
 
 -- ---- Groups of rules
 
-three : (n : ℕ) (a b c : Bool) (rest : List Bool) → first_failing n (a ∷ b ∷ c ∷ rest) ≡ option_or (first_failing n (a ∷ b ∷ c ∷ [])) (first_failing (suc (suc (suc n))) rest)
-three n false b c rest = refl
-three n true false c rest = refl
-three n true true false rest = refl
-three n true true true rest = refl
+-- the number of the test behind these
+abbrev number_after : ℕ → List Bool → ℕ
+number_after n [] = n
+number_after n (test ∷ tests) = number_after (suc n) tests
 
-two : (n : ℕ) (a b : Bool) (rest : List Bool) → first_failing n (a ∷ b ∷ rest) ≡ option_or (first_failing n (a ∷ b ∷ [])) (first_failing (suc (suc n)) rest)
-two n false b rest = refl
-two n true false rest = refl
-two n true true rest = refl
+-- of two lists of tests in a row, the first that fails is the first of the former, or else of the latter
+split : (n : ℕ) (tests rest : List Bool) → first_failing n (tests ++ rest) ≡ option_or (first_failing n tests) (first_failing (number_after n tests) rest)
+split n [] rest = refl
+split n (false ∷ tests) rest = refl
+split n (true ∷ tests) rest = split (suc n) tests rest
 
-assoc : (x y z : Option ℕ) → option_or (option_or x y) z ≡ option_or x (option_or y z)
-assoc None y z = refl
-assoc (Some x) y z = refl
+in_turn : (l m a w : Option ℕ) → option_or (option_or (option_or l m) a) w ≡ option_or l (option_or m (option_or a w))
+in_turn None m a w = assoc m a w
+in_turn (Some l) m a w = refl
 
-five : (g b p c a w : Option ℕ) → option_or (option_or (option_or (option_or (option_or g b) p) c) a) w ≡ option_or g (option_or b (option_or p (option_or c (option_or a w))))
-five None b p c a w = ap (λ x. option_or x w) (ap (λ x. option_or x a) (assoc b p c)) ∙ ap (λ x. option_or x w) (assoc b (option_or p c) a ∙ ap (λ x. option_or b x) (assoc p c a)) ∙ assoc b (option_or p (option_or c a)) w ∙ ap (λ x. option_or b x) (assoc p (option_or c a) w ∙ ap (λ x. option_or p x) (assoc c a w))
-five (Some g) b p c a w = refl
+same_groups : (l m a w l' m' a' w' : Option ℕ) → l ≡ l' → m ≡ m' → a ≡ a' → w ≡ w'
+    → option_or l (option_or m (option_or a w)) ≡ option_or l' (option_or m' (option_or a' w'))
+same_groups l m a w l' m' a' w' e1 e2 e3 e4 = rw (e1, e2, e3, e4) refl
 
-in_groups : (g1 g2 g3 b1 b2 p1 p2 p3 c1 c2 c3 a1 a2 w : Bool)
-    → option_or (first_failing 1 (g1 ∷ g2 ∷ g3 ∷ [])) (option_or (first_failing 4 (b1 ∷ b2 ∷ [])) (option_or (first_failing 6 (p1 ∷ p2 ∷ p3 ∷ [])) (option_or (first_failing 9 (c1 ∷ c2 ∷ c3 ∷ [])) (option_or (first_failing 12 (a1 ∷ a2 ∷ [])) (first_failing 14 (w ∷ []))))))
-    ≡ first_failing 1 (g1 ∷ g2 ∷ g3 ∷ b1 ∷ b2 ∷ p1 ∷ p2 ∷ p3 ∷ c1 ∷ c2 ∷ c3 ∷ a1 ∷ a2 ∷ w ∷ [])
-in_groups g1 g2 g3 b1 b2 p1 p2 p3 c1 c2 c3 a1 a2 w = sym (
-    three 1 g1 g2 g3 (b1 ∷ b2 ∷ p1 ∷ p2 ∷ p3 ∷ c1 ∷ c2 ∷ c3 ∷ a1 ∷ a2 ∷ w ∷ [])
-    ∙ ap (λ x. option_or (first_failing 1 (g1 ∷ g2 ∷ g3 ∷ [])) x) (
-    two 4 b1 b2 (p1 ∷ p2 ∷ p3 ∷ c1 ∷ c2 ∷ c3 ∷ a1 ∷ a2 ∷ w ∷ [])
-    ∙ ap (λ x. option_or (first_failing 4 (b1 ∷ b2 ∷ [])) x) (
-    three 6 p1 p2 p3 (c1 ∷ c2 ∷ c3 ∷ a1 ∷ a2 ∷ w ∷ [])
-    ∙ ap (λ x. option_or (first_failing 6 (p1 ∷ p2 ∷ p3 ∷ [])) x) (
-    three 9 c1 c2 c3 (a1 ∷ a2 ∷ w ∷ [])
-    ∙ ap (λ x. option_or (first_failing 9 (c1 ∷ c2 ∷ c3 ∷ [])) x) (two 12 a1 a2 (w ∷ [])))))
+in_groups : (ten : List Bool) (m a1 a2 w : Bool) → number_after 1 ten ≡ 11
+    → option_or (first_failing 1 ten) (option_or (first_failing 11 (m ∷ [])) (option_or (first_failing 12 (a1 ∷ a2 ∷ [])) (first_failing 14 (w ∷ []))))
+    ≡ first_failing 1 (ten ++ m ∷ a1 ∷ a2 ∷ w ∷ [])
+in_groups ten m a1 a2 w eleven = sym (
+    split 1 ten (m ∷ a1 ∷ a2 ∷ w ∷ [])
+    ∙ ap (λ (k : ℕ). option_or (first_failing 1 ten) (first_failing k (m ∷ a1 ∷ a2 ∷ w ∷ []))) eleven
+    ∙ ap (λ x. option_or (first_failing 1 ten) x) (
+    split 11 (m ∷ []) (a1 ∷ a2 ∷ w ∷ [])
+    ∙ ap (λ x. option_or (first_failing 11 (m ∷ [])) x) (split 12 (a1 ∷ a2 ∷ []) (w ∷ [])))
     )
 
-same_groups : (g b p c a w g' b' p' c' a' w' : Option ℕ) → g ≡ g' → b ≡ b' → p ≡ p' → c ≡ c' → a ≡ a' → w ≡ w'
-    → option_or g (option_or b (option_or p (option_or c (option_or a w)))) ≡ option_or g' (option_or b' (option_or p' (option_or c' (option_or a' w'))))
-same_groups g b p c a w g' b' p' c' a' w' e1 e2 e3 e4 e5 e6 = rw (e1, e2, e3, e4, e5, e6) refl
-
-pub broken_is : (h : Header) (clock : ℕ) (command : Command) (log : Log) (g b p c a w : Option ℕ)
-    → g ≡ first_failing 1 (spacing_rules h.timing clock command log)
-    → b ≡ first_failing 4 (bank_rules command log)
-    → p ≡ first_failing 6 (refresh_rules h clock command log)
-    → c ≡ first_failing 9 (count_rules h command log)
+pub broken_is : (h : Header) (clock : ℕ) (command : Command) (log : Log) (l m a w : Option ℕ)
+    → l ≡ first_of_ten h clock command log
+    → m ≡ first_failing 11 (rule_11 h command log ∷ [])
     → a ≡ first_failing 12 (alert_rules h clock command log)
     → w ≡ first_failing 14 (rule_14 h command log ∷ [])
-    → option_or (option_or (option_or (option_or (option_or g b) p) c) a) w ≡ first_broken h clock command log
-unfolding first_broken
-broken_is h clock command log g b p c a w e1 e2 e3 e4 e5 e6 = five g b p c a w ∙ same_groups g b p c a w _ _ _ _ _ _ e1 e2 e3 e4 e5 e6 ∙ in_groups (rule_1 clock log) (rule_2 h.timing clock command log) (rule_3 h.timing clock command log) (rule_4 command log) (rule_5 command log) (rule_6 h clock command log) (rule_7 command log) (rule_8 h command log) (rule_9 h command log) (rule_10 h command log) (rule_11 h command log) (rule_12 h clock command log) (rule_13 h clock log) (rule_14 h command log)
+    → option_or (option_or (option_or l m) a) w ≡ first_broken h clock command log
+unfolding first_broken first_of_ten
+broken_is h clock command log l m a w e1 e2 e3 e4 = in_turn l m a w ∙ same_groups l m a w _ _ _ _ e1 e2 e3 e4
+    ∙ in_groups (ten_rules h clock command log) (rule_11 h command log) (rule_12 h clock command log) (rule_13 h clock log) (rule_14 h command log) refl
 
 end_in_groups : (r1 r6 r13 r14 : Bool)
     → option_or (option_or (option_or (first_failing 1 (r1 ∷ [])) (first_failing 6 (r6 ∷ []))) (first_failing 13 (r13 ∷ []))) (first_failing 14 (r14 ∷ []))
@@ -86,35 +77,16 @@ end_broken_is h clock log r1 r6 r13 r14 x1 x6 x13 x14 a b c d e1 e2 e3 e4 f1 f2 
 
 -- ---- What a command that breaks no rule keeps
 
-passes : (n : ℕ) (test : Bool) (tests : List Bool) → first_failing n (test ∷ tests) ≡ None → (test ≡ true) × (first_failing (suc n) tests ≡ None)
-passes n true tests h = (refl, h)
-passes n false tests h = absurd cc
-
-nine : (a b c d e f g h i : Bool) (rest : List Bool) → first_failing 1 (a ∷ b ∷ c ∷ d ∷ e ∷ f ∷ g ∷ h ∷ i ∷ rest) ≡ None
-    → (a ≡ true) × (b ≡ true) × (c ≡ true) × (d ≡ true) × (e ≡ true) × (f ≡ true) × (g ≡ true) × (h ≡ true) × (i ≡ true)
-nine a b c d e f g h i rest none =
-    let k1 = passes 1 a (b ∷ c ∷ d ∷ e ∷ f ∷ g ∷ h ∷ i ∷ rest) none in
-    let k2 = passes 2 b (c ∷ d ∷ e ∷ f ∷ g ∷ h ∷ i ∷ rest) k1.1 in
-    let k3 = passes 3 c (d ∷ e ∷ f ∷ g ∷ h ∷ i ∷ rest) k2.1 in
-    let k4 = passes 4 d (e ∷ f ∷ g ∷ h ∷ i ∷ rest) k3.1 in
-    let k5 = passes 5 e (f ∷ g ∷ h ∷ i ∷ rest) k4.1 in
-    let k6 = passes 6 f (g ∷ h ∷ i ∷ rest) k5.1 in
-    let k7 = passes 7 g (h ∷ i ∷ rest) k6.1 in
-    let k8 = passes 8 h (i ∷ rest) k7.1 in
-    let k9 = passes 9 i rest k8.1 in
-    (k1.0, k2.0, k3.0, k4.0, k5.0, k6.0, k7.0, k8.0, k9.0)
+none_before : (x y : Option ℕ) → option_or x y ≡ None → x ≡ None
+none_before None y e = refl
+none_before (Some n) y e = e
 
 pub follows : (h : Header) (clock : ℕ) (command : Command) (log : Log) → first_broken h clock command log ≡ None → Follows h clock command log
-unfolding first_broken
+unfolding first_broken first_of_ten
 follows h clock command log none =
-    let k = nine (rule_1 clock log) (rule_2 h.timing clock command log) (rule_3 h.timing clock command log) (rule_4 command log) (rule_5 command log) (rule_6 h clock command log) (rule_7 command log) (rule_8 h command log) (rule_9 h command log)
-    (rule_10 h command log ∷ rule_11 h command log ∷ rule_12 h clock command log ∷ rule_13 h clock log ∷ rule_14 h command log ∷ []) none in
-    record {
-      spaced = record { rises = k.0; gaps = k.1; window = k.2 };
-      fits = record { fourth = k.3; fifth = k.4 };
-      allowed = record { sixth = k.5; seventh = k.6; eighth = k.7 };
-      counted = k.8;
-    }
+    let rest = rule_11 h command log ∷ rule_12 h clock command log ∷ rule_13 h clock log ∷ rule_14 h command log ∷ [] in
+    let ten : first_of_ten h clock command log ≡ None = none_before (first_failing 1 (ten_rules h clock command log)) (first_failing 11 rest) (sym (split 1 (ten_rules h clock command log) rest) ∙ none) in
+    (follows_ten h clock command log ten).0
 
 -- ---- Verdicts, one place later
 

@@ -1,4 +1,3 @@
-pub mod AnyBelow
 pub mod Auditions
 pub mod Endings
 pub mod Judging
@@ -6,4 +5,3 @@ pub mod Lines
 pub mod Parts
 pub mod Readings
 pub mod Taking
-pub mod Wanting

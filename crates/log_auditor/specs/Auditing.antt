@@ -14,7 +14,7 @@ use Rattle.speed_bin.specs.Rules.{verdict, verdict_at_end}
 use Rattle.speed_bin.specs.Timing.{IsTiming}
 use Rattle.speed_bin.specs.declared.header.Header.{Header}
 use Rattle.row_activity.specs.Standing.{StandsFor as ActivityFor}
-use Rattle.log_auditor.specs.Ledger.{LedgerKeeps}
+use Rattle.log_ledger.specs.Standing.{StandsFor as LedgerFor}
 use Rattle.log_auditor.specs.declared.judge.Judge.{Judge}
 use Rattle.log_auditor.specs.declared.judge.State.{State}
 use Rattle.log_auditor.specs.declared.judge.State.TheVariants.{Open, Broken, Ended}
@@ -68,7 +68,7 @@ pub record Parts (it : Judge) (h : Header) (log : Log) : Type 0 where
   pub settings : it.settings ≡ h.settings
   pub writes : it.writes.items ≡ register_writes h.settings
   pub places : it.places ≡ min 8 (length log)
-  pub ledger : LedgerKeeps it.ledger h log
+  pub ledger : LedgerFor it.ledger h log
   pub activity : ActivityFor it.activity h log
 
 -- the state is the verdict on the log; and where no rule was broken, the parts are those of the log

@@ -1,6 +1,5 @@
 pub mod Auditing
 pub mod Findings
 pub mod Groups
-pub mod Ledger
 pub mod Progress
 pub mod Reading

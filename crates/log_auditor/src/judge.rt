@@ -6,18 +6,17 @@ ghost use Rattle.speed_bin.specs.Alert.{alert};
 ghost use Rattle.speed_bin.specs.Counters.{acts};
 ghost use Rattle.speed_bin.specs.Header.{IsAccepted, bound as bound_of};
 ghost use Rattle.speed_bin.specs.Log.{Log};
-ghost use Rattle.speed_bin.specs.Rules.{first_failing, all_closed, is_write, rule_1, rule_14, verdict_at_end};
+ghost use Rattle.speed_bin.specs.Rules.{first_failing, all_closed, is_write, rule_14, verdict_at_end};
 ghost use Rattle.speed_bin.specs.Timing.{IsTiming};
 ghost use Rattle.speed_bin.specs.declared.header.Header.{Header as AnyHeader};
 ghost use Rattle.bank_state.specs.Standing.{StandsFor as BanksFor};
 ghost use Rattle.row_activity.specs.Counted.{MayCount};
 ghost use Rattle.row_activity.specs.Standing.{StandsFor as ActivityFor, MayIssue};
 ghost use Rattle.log_auditor.specs.Groups.{first_broken, first_broken_at_end};
-ghost use Rattle.log_auditor.specs.Ledger.{Follows};
+ghost use Rattle.log_ledger.specs.Standing.{Follows};
 ghost use Rattle.log_auditor.specs.Auditing.{told, told_state, is_ended, is_open as is_open_state, write_of as write_in};
 
-use crate::ledger::Ledger;
-use crate::rules::{alert_rule, bank_rule, count_rule, failing, until};
+use crate::rules::{alert_rule, failing, management_rule, until};
 use crate::{Rule, Verdict};
 use arrayvec::ArrayVec;
 use backoff::laws::bound;
@@ -25,6 +24,7 @@ use bank_state::Banks;
 use command_words::{Command, Geometry, Mrw};
 use ddr_io::OutOfMemory;
 use ddr_text::ReportLine;
+use log_ledger::Ledger;
 use mode_registers::writes;
 use row_activity::Activity;
 use speed_bin::{Header, Settings, Timing};
@@ -189,13 +189,8 @@ impl Judge {
         ensures geometry { self.new.geometry ≡ self.old.geometry }
         ensures state { self.new.state ≡ self.old.state }
     {
-        count(
-            &mut self.activity,
-            clock,
-            command,
-            &self.ledger.banks,
-            &self.settings,
-        );
+        let rows = self.ledger.open_rows();
+        count(&mut self.activity, clock, command, rows, &self.settings);
         self.ledger.issue(clock, command);
         if self.places < 8 {
             self.places += 1;
@@ -210,11 +205,8 @@ impl Judge {
     {
         let raised = self.activity.alert().raised().is_some();
         self.ledger
-            .gate
             .broken(clock, command)
-            .or(bank_rule(&self.ledger.banks, command))
-            .or(self.ledger.plan.broken(command, clock))
-            .or(count_rule(&self.ledger.raa, self.settings.raaimt, raised, command))
+            .or(management_rule(&self.ledger, raised, command))
             .or(alert_rule(self.activity.alert(), &self.timing, clock, command))
             .or(self.write_rule(command))
     }
@@ -226,24 +218,17 @@ impl Judge {
         ensures { (h : AnyHeader) (log : Log) → Parts self.now h log → result ≡ first_broken_at_end h clock log }
     {
         let in_time = until(clock, self.activity.alert().deadline(&self.timing));
-        failing(self.is_last(clock), 1)
-            .or(failing(self.ledger.plan.allowed_at_end(clock), 6))
+        failing(self.ledger.is_later(clock), 1)
+            .or(failing(self.ledger.allowed_at_end(clock), 6))
             .or(failing(in_time, 13))
             .or(failing(self.is_complete(), 14))
-    }
-
-    // Whether the clock is above those of all commands.
-    fn is_last(&self, clock: u64) -> bool
-        ensures { (h : AnyHeader) (log : Log) → Parts self.now h log → result ≡ rule_1 clock log }
-    {
-        self.ledger.gate.broken(clock, &Command::Nop) != Some(1)
     }
 
     // Whether the register writes were made, all banks are closed, and no alert is raised.
     fn is_complete(&self) -> bool
         ensures { (h : AnyHeader) (log : Log) → Parts self.now h log → result ≡ (nat_le 8 (length log) && (all_closed log && is_none (alert h log))) }
     {
-        let closed = self.ledger.banks.all_closed();
+        let closed = self.ledger.all_closed();
         let calm = self.activity.alert().raised().is_none();
         8 <= self.places && closed && calm
     }

@@ -5,7 +5,6 @@ mod audit_loop;
 mod auditor;
 mod finding;
 mod judge;
-mod ledger;
 mod report_reader;
 mod rules;
 #[cfg(test)]

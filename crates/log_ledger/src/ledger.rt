@@ -8,7 +8,7 @@ ghost use Rattle.speed_bin.specs.Header.{IsAccepted};
 ghost use Rattle.speed_bin.specs.Log.{Log, open_at, raa, refs, scrubs};
 ghost use Rattle.speed_bin.specs.Rules.{MayFollow, all_closed, is_on_time, is_wanted, rule_1, rule_4, rule_5, rule_9, rule_10};
 ghost use Rattle.speed_bin.specs.declared.header.Header.{Header as AnyHeader};
-ghost use Rattle.bank_state.specs.Standing.{Fits};
+ghost use Rattle.bank_state.specs.Standing.{Fits, StandsFor as BanksFor};
 ghost use Rattle.refresh_plan.specs.Debts.{IsNothingDue, IsDueFirst};
 ghost use Rattle.refresh_plan.specs.Standing.{IsAllowed};
 
@@ -121,6 +121,13 @@ impl Ledger {
         ensures { (h : AnyHeader) (log : Log) → StandsFor self.now h log → result ≡ open_at (bank_number bank) log }
     {
         self.banks.open_row(bank)
+    }
+
+    /// The open rows of all banks.
+    pub fn open_rows(&self) -> &Banks
+        ensures { (h : AnyHeader) (log : Log) → StandsFor self.now h log → BanksFor result.now log }
+    {
+        &self.banks
     }
 
     /// Whether no bank has an open row.
