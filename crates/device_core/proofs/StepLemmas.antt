@@ -1,10 +1,10 @@
 -- What one command more makes of the stored lines, the scrub's visits and the answers.
-use Rattle.std.proofs.Common.{◌≡◌, ◌∙◌, ℕ, ◌+◌, ◌^◌, ◌<◌, ◌≤◌, Bool, true, false, cond, refl, sym, ap, subst, arith, Option, Some, None, is_some, List, [], ◌∷◌, length, IsTrue, Result, Ok, Err, IsOk}
+use Rattle.std.proofs.Common.{◌≡◌, ◌∙◌, ℕ, ◌+◌, ◌^◌, ◌<◌, ◌≤◌, Bool, true, false, cond, refl, sym, ap, subst, arith, Option, Some, None, is_some, List, [], ◌∷◌, length, IsTrue, Result, Ok, Err, IsOk, OnOk, OnErr}
 use native.Mathlib.Bridge.{le_prop}
 use Rattle.std.proofs.Math.Logic.{∥∥₁_elim, ∥∥₁_map}
 use Rattle.command_words.specs.Command.{bank_number, IsInRange}
 use Rattle.command_words.specs.Geometry.{Shape}
-use Rattle.command_words.specs.Place.{IsInside}
+use Rattle.command_words.specs.Place.{IsInside, line_of}
 use Rattle.command_words.specs.declared.place.Bank.{Bank}
 use Rattle.command_words.specs.declared.geometry.Place.{Place}
 use Rattle.command_words.specs.declared.command.Command.{Command}
@@ -18,17 +18,18 @@ use Rattle.command_words.specs.Kinds.{is_rd, is_wr, is_scrub}
 use Rattle.speed_bin.specs.Log.{Issued, Log, open_at, scrubs as scrubs_in}
 use Rattle.error_scrub.specs.Cells.{cells_shape, IsUnchanged as CellsUnchanged}
 use Rattle.error_scrub.specs.declared.cells.Cells.{Cells}
-use Rattle.error_scrub.specs.Changes.{Change, scrubs, StandsFor as CellsFor}
+use Rattle.error_scrub.specs.Changes.{Change, scrubs, turns, StandsFor as CellsFor}
 use Rattle.error_scrub.specs.Scrubbing.{Step as Visit, Tally, line_after, StandsFor as ScrubFor}
 use Rattle.std.proofs.lemmas.List.Sums.{count_by-le-length, sum_by-cons}
+use Rattle.device_core.specs.Access.{AreOf, AreOfSome, MayAccess}
 use Rattle.device_core.specs.Legal.{IsLegal, AllLegal}
 use Rattle.device_core.specs.Rows.{StandsFor as RowsFor, MayIssue}
 use Rattle.device_core.specs.Steps.{Step, Issues, Flips, log_of}
-use Rattle.device_core.specs.Store.{StandsFor as StoreFor}
+use Rattle.device_core.specs.Store.{StandsFor as StoreFor, IsUnchanged as StoreUnchanged}
 use Rattle.device_core.specs.Stored.{also, answer, change_of, changes_of, visits, words_after}
-use Rattle.device_core.specs.Standing.{Keeps, StandsFor, StandsForSome, IsGiven, AllGiven, IsBit, MayGive, MayStep, MayFlip, IsUnchanged, with_command}
+use Rattle.device_core.specs.Standing.{StandsFor, StandsForSome, IsGiven, AllGiven, IsBit, MayStep, MayFlip, IsUnchanged, with_command}
 use Rattle.device_core.specs.declared.activations.Activations.{Activations}
-use Rattle.device_core.specs.declared.device.Device.{Device}
+use Rattle.device_core.specs.Held.{Held}
 use Rattle.device_core.specs.declared.store.Store.{Store}
 use Rattle.device_core.proofs.Rules.{passes, short_log, open_inside, open_group, low_bank}
 
@@ -96,35 +97,32 @@ open_at_rd h clock command bank column log is legal = subst (λ (c : Command). I
 pub open_at_wr : (h : Header) (clock : ℕ) (command : Command) (bank : Bank) (column : ℕ) (log : Log) → command ≡ Wr bank column → IsLegal h clock command log → IsTrue (is_some (open_at (bank_number bank) log))
 open_at_wr h clock command bank column log is legal = subst (λ (c : Command). IsLegal h clock c log → IsTrue (is_some (open_at (bank_number bank) log))) (sym is) (λ l. (passes h clock (Wr bank column) log l).1.1.1.0) legal
 
-pub bank_of_rd : (device : Device) (clock : ℕ) (command : Command) (bank : Bank) (column : ℕ) (bytes : Option (List ℕ)) → command ≡ Rd bank column → MayGive device clock command bytes → bank_number bank < 32
-bank_of_rd device clock command bank column bytes is may = ∥∥₁_elim may le_prop (λ p. go (subst IsInRange is p.3.legal.in_range))
+pub bank_of_rd : (rows : Activations) (store : Store) (clock : ℕ) (command : Command) (bank : Bank) (column : ℕ) (bytes : Option (List ℕ)) → command ≡ Rd bank column → MayAccess rows store clock command bytes → bank_number bank < 32
+bank_of_rd rows store clock command bank column bytes is may = ∥∥₁_elim may le_prop (λ p. go (subst IsInRange is p.3.legal.in_range))
   where
     go : IsInRange (Rd bank column) → bank_number bank < 32
     go r = low_bank bank r.0
 
-pub bank_of_wr : (device : Device) (clock : ℕ) (command : Command) (bank : Bank) (column : ℕ) (bytes : Option (List ℕ)) → command ≡ Wr bank column → MayGive device clock command bytes → bank_number bank < 32
-bank_of_wr device clock command bank column bytes is may = ∥∥₁_elim may le_prop (λ p. go (subst IsInRange is p.3.legal.in_range))
+pub bank_of_wr : (rows : Activations) (store : Store) (clock : ℕ) (command : Command) (bank : Bank) (column : ℕ) (bytes : Option (List ℕ)) → command ≡ Wr bank column → MayAccess rows store clock command bytes → bank_number bank < 32
+bank_of_wr rows store clock command bank column bytes is may = ∥∥₁_elim may le_prop (λ p. go (subst IsInRange is p.3.legal.in_range))
   where
     go : IsInRange (Wr bank column) → bank_number bank < 32
     go r = low_bank bank r.0
 
-pub some_list : (device : Device) (clock : ℕ) (command : Command) (bytes : Option (List ℕ)) → MayGive device clock command bytes → StandsForSome device
-some_list device clock command bytes may = ∥∥₁_map may (λ p. (p.0, p.1, p.2))
+pub some_list : (rows : Activations) (store : Store) (clock : ℕ) (command : Command) (bytes : Option (List ℕ)) → MayAccess rows store clock command bytes → AreOfSome rows store
+some_list rows store clock command bytes may = ∥∥₁_map may (λ p. (p.0, p.1, p.2))
 
 -- ---- What the conditions of the parts need
 
-pub scrub_shape : (device : Device) → StandsForSome device → device.store.scrub.shape ≡ cells_shape device.store.cells
-unfolding StandsFor StoreFor
-scrub_shape device may = shape_by_some _ _ (∥∥₁_map may (λ p. go p.0 p.1 p.2))
-  where
-    go : (h : Header) (steps : List Step) → Keeps device h steps → device.store.scrub.shape ≡ cells_shape device.store.cells
-    go h steps s = s.store.scrub_shape ∙ sym s.store.shape
+pub scrub_shape : (rows : Activations) (store : Store) → AreOfSome rows store → store.scrub.shape ≡ cells_shape store.cells
+unfolding StoreFor
+scrub_shape rows store may = shape_by_some _ _ (∥∥₁_map may (λ p. p.2.store.scrub_shape ∙ sym p.2.store.shape))
 
-pub few_steps : (device : Device) (clock : ℕ) (command : Command) (bytes : Option (List ℕ)) → MayGive device clock command bytes → device.store.scrub.steps < 2 ^ 48
-unfolding StandsFor StoreFor RowsFor
-few_steps device clock command bytes may = ∥∥₁_elim may le_prop (λ p. go p.0 p.1 p.2 p.3)
+pub few_steps : (rows : Activations) (store : Store) (clock : ℕ) (command : Command) (bytes : Option (List ℕ)) → MayAccess rows store clock command bytes → store.scrub.steps < 2 ^ 48
+unfolding StoreFor RowsFor
+few_steps rows store clock command bytes may = ∥∥₁_elim may le_prop (λ p. go p.0 p.1 p.2 p.3)
   where
-    go : (h : Header) (steps : List Step) → Keeps device h steps → IsGiven h clock command bytes steps → device.store.scrub.steps < 2 ^ 48
+    go : (h : Header) (steps : List Step) → AreOf rows store h steps → IsGiven h clock command bytes steps → store.scrub.steps < 2 ^ 48
     go h steps s given =
         let made = s.store.steps in
         let counted = visits_count h steps in
@@ -132,42 +130,47 @@ few_steps device clock command bytes may = ∥∥₁_elim may le_prop (λ p. go 
         let short = short_log h clock command (log_of steps) s.activations.legal given.legal in
         omega arith
 
--- the open row of a bank is inside the device's shape
-pub row_inside : (device : Device) (bank : Bank) (column row : ℕ) → bank_number bank < 32 → StandsForSome device → ((h : Header) (steps : List Step) → StandsFor device h steps → Some row ≡ open_at (bank_number bank) (log_of steps)) → IsInside (record { bank = bank; row = row; column = column }) (cells_shape device.store.cells)
-unfolding StandsFor StoreFor RowsFor
-row_inside device bank column row low may is = record {
+-- a place in an open row is one of the stored lines
+pub place_inside : (rows : Activations) (store : Store) (place : Place) → AreOfSome rows store → ((h : Header) (log : Log) → RowsFor rows h log → IsInside place (shape_of h)) → IsInside place (cells_shape store.cells)
+unfolding StoreFor
+place_inside rows store place may inside = record {
   row = ∥∥₁_elim may le_prop (λ p. (go p.0 p.1 p.2).row);
   group = ∥∥₁_elim may le_prop (λ p. (go p.0 p.1 p.2).group);
 }
   where
-    go : (h : Header) (steps : List Step) → Keeps device h steps → IsInside (record { bank = bank; row = row; column = column }) (cells_shape device.store.cells)
-    go h steps s = subst (IsInside (record { bank = bank; row = row; column = column })) (sym s.store.shape) (record {
-      row = open_inside h (bank_number bank) row (log_of steps) s.activations.accepted s.activations.legal low (sym (is h steps s));
-      group = open_group h bank row (log_of steps) s.activations.legal (sym (is h steps s));
-    })
+    go : (h : Header) (steps : List Step) → AreOf rows store h steps → IsInside place (cells_shape store.cells)
+    go h steps s = subst (IsInside place) (sym s.store.shape) (inside h (log_of steps) s.activations)
+
+-- the open row of a bank is one of the header's
+pub row_inside : (rows : Activations) (bank : Bank) (column row : ℕ) (h : Header) (log : Log) → bank_number bank < 32 → RowsFor rows h log → open_at (bank_number bank) log ≡ Some row → IsInside (record { bank = bank; row = row; column = column }) (shape_of h)
+unfolding RowsFor
+row_inside rows bank column row h log low s is = record {
+  row = open_inside h (bank_number bank) row log s.accepted s.legal low is;
+  group = open_group h bank row log s.legal is;
+}
 
 -- ---- A turned bit
 
-flips_inside : (device : Device) (h : Header) (steps : List Step) (place : Place) (at bit : ℕ) → StandsFor device h steps → IsBit h place at bit → IsInside place (cells_shape device.store.cells)
+flips_inside : (device : Held) (h : Header) (steps : List Step) (place : Place) (at bit : ℕ) → StandsFor device h steps → IsBit h place at bit → IsInside place (cells_shape device.store.cells)
 unfolding StandsFor StoreFor
 flips_inside device h steps place at bit s can = subst (IsInside place) (sym s.store.shape) can.inside
 
-pub flip_inside : (device : Device) (place : Place) (at bit : ℕ) → MayFlip device place at bit → IsInside place (cells_shape device.store.cells)
+pub flip_inside : (device : Held) (place : Place) (at bit : ℕ) → MayFlip device place at bit → IsInside place (cells_shape device.store.cells)
 flip_inside device place at bit may = record {
   row = ∥∥₁_elim may le_prop (λ p. (flips_inside device p.0 p.1 place at bit p.2 p.3).row);
   group = ∥∥₁_elim may le_prop (λ p. (flips_inside device p.0 p.1 place at bit p.2 p.3).group);
 }
 
-pub flip_device : (device : Device) (place : Place) (at bit : ℕ) → MayFlip device place at bit → at < 4
+pub flip_device : (device : Held) (place : Place) (at bit : ℕ) → MayFlip device place at bit → at < 4
 flip_device device place at bit may = ∥∥₁_elim may le_prop (λ p. p.3.of_four)
 
-pub flip_bit : (device : Device) (place : Place) (at bit : ℕ) → MayFlip device place at bit → bit < 136
+pub flip_bit : (device : Held) (place : Place) (at bit : ℕ) → MayFlip device place at bit → bit < 136
 flip_bit device place at bit may = ∥∥₁_elim may le_prop (λ p. p.3.in_word)
 
 -- ---- Words
 
 -- what words spell is the command that they decode to
-pub decodes : (r : Result Command WordFault) (device : Device) (clock : ℕ) (words : Words) (bytes : Option (List ℕ)) → ((command : Command) → IsInRange command → Spells command words → r ≡ Ok command) → MayStep device clock words bytes → IsOk r
+pub decodes : (r : Result Command WordFault) (device : Held) (clock : ℕ) (words : Words) (bytes : Option (List ℕ)) → ((command : Command) → IsInRange command → Spells command words → r ≡ Ok command) → MayStep device clock words bytes → IsOk r
 decodes (Ok command) device clock words bytes only may = refl
 decodes (Err fault) device clock words bytes only may =
     let no : 1 ≤ 0 = ∥∥₁_elim may le_prop (λ p. let e = only p.2 p.4.given.legal.in_range p.4.spelled in absurd (cc)) in
@@ -176,20 +179,26 @@ decodes (Err fault) device clock words bytes only may =
 pub named : (r : Result Command WordFault) (command other : Command) (words : Words) → ((command : Command) → IsInRange command → Spells command words → r ≡ Ok command) → r ≡ Ok other → IsInRange command → Spells command words → command ≡ other
 named r command other words only is inside spelled = let e = only command inside spelled in cc
 
-pub may_give : (r : Result Command WordFault) (device : Device) (clock : ℕ) (other : Command) (words : Words) (bytes : Option (List ℕ)) → ((command : Command) → IsInRange command → Spells command words → r ≡ Ok command) → r ≡ Ok other → MayStep device clock words bytes → MayGive device clock other bytes
-may_give r device clock other words bytes only is may = ∥∥₁_map may (λ p. (p.0, p.1, p.3, subst (λ (c : Command). IsGiven p.0 clock c bytes p.1) (named r p.2 other words only is p.4.given.legal.in_range p.4.spelled) p.4.given))
-
--- the rest of the device is asked for its part of the condition
-pub may_issue : (device : Device) (clock : ℕ) (command : Command) (bytes : Option (List ℕ)) → MayGive device clock command bytes → MayIssue device.activations clock command
+pub may_access : (r : Result Command WordFault) (device : Held) (clock : ℕ) (other : Command) (words : Words) (bytes : Option (List ℕ)) → ((command : Command) → IsInRange command → Spells command words → r ≡ Ok command) → r ≡ Ok other → MayStep device clock words bytes → MayAccess device.activations device.store clock other bytes
 unfolding StandsFor
-may_issue device clock command bytes may = ∥∥₁_map may (λ p. (p.0, log_of p.1, p.2.activations, p.3.legal))
+may_access r device clock other words bytes only is may =
+    ∥∥₁_map may (λ p. (
+      p.0,
+      p.1,
+      record { activations = p.3.activations; store = p.3.store },
+      subst (λ (c : Command). IsGiven p.0 clock c bytes p.1) (named r p.2 other words only is p.4.given.legal.in_range p.4.spelled) p.4.given,
+    ))
+
+-- the open rows and the activations are asked for their part of the condition
+pub may_issue : (rows : Activations) (store : Store) (clock : ℕ) (command : Command) (bytes : Option (List ℕ)) → MayAccess rows store clock command bytes → MayIssue rows clock command
+may_issue rows store clock command bytes may = ∥∥₁_map may (λ p. (p.0, log_of p.1, p.2.activations, p.3.legal))
 
 -- ---- The same device
 
 abbrev pub UnchangedLaw : Type 0
 UnchangedLaw = (old new : Cells) (log : List Change) → CellsUnchanged old new → CellsFor old log → CellsFor new log
 
-pub still_stands : (law : UnchangedLaw) (old new : Device) (h : Header) (steps : List Step) → IsUnchanged old new → StandsFor old h steps → StandsFor new h steps
+pub still_stands : (law : UnchangedLaw) (old new : Held) (h : Header) (steps : List Step) → IsUnchanged old new → StandsFor old h steps → StandsFor new h steps
 unfolding StandsFor StoreFor IsUnchanged
 still_stands law old new h steps u s = record {
   given = s.given;
@@ -206,14 +215,52 @@ still_stands law old new h steps u s = record {
 
 -- ---- What the list of a device says of itself
 
-pub list_accepted : (device : Device) (h : Header) (steps : List Step) → StandsFor device h steps → IsAccepted h
+pub list_accepted : (device : Held) (h : Header) (steps : List Step) → StandsFor device h steps → IsAccepted h
 unfolding StandsFor RowsFor
 list_accepted device h steps s = s.activations.accepted
 
-pub list_legal : (device : Device) (h : Header) (steps : List Step) → StandsFor device h steps → AllLegal h (log_of steps)
+pub list_legal : (device : Held) (h : Header) (steps : List Step) → StandsFor device h steps → AllLegal h (log_of steps)
 unfolding StandsFor RowsFor
 list_legal device h steps s = s.activations.legal
 
-pub list_given : (device : Device) (h : Header) (steps : List Step) → StandsFor device h steps → AllGiven h steps
+pub list_given : (device : Held) (h : Header) (steps : List Step) → StandsFor device h steps → AllGiven h steps
 unfolding StandsFor
 list_given device h steps s = s.given
+
+-- ---- A list of the device, once it changed
+
+abbrev pub StaysLaw : Type 0
+StaysLaw = (old new : Held) (h : Header) (steps : List Step) → IsUnchanged old new → StandsFor old h steps → StandsFor new h steps
+
+-- where each stored word stays, the device stands for a list as before
+pub stays_some : (law : StaysLaw) (registers : List (Option ℕ)) (activations : Activations) (old new : Store) → StoreUnchanged old new
+    → StandsForSome (record { registers = registers; activations = activations; store = old })
+    → StandsForSome (record { registers = registers; activations = activations; store = new })
+unfolding IsUnchanged
+stays_some law registers activations old new same some =
+    ∥∥₁_map some (λ p. (
+      p.0,
+      p.1,
+      law (record { registers = registers; activations = activations; store = old }) (record { registers = registers; activations = activations; store = new })
+          p.0 p.1 (record { registers = refl; activations = refl; store = same }) p.2,
+    ))
+
+-- a turned bit makes the list longer, and want of memory leaves it
+pub flip_some : {T E : Type 0} (r : Result T E) (law : StaysLaw) (registers : List (Option ℕ)) (activations : Activations) (old new : Store) (place : Place) (at bit : ℕ)
+    → OnOk r ((g : Shape) (changes : List Change) (seen : List Visit) → StoreFor old g changes seen → StoreFor new g (turns (line_of place g) at bit ∷ changes) seen)
+    → OnErr r (StoreUnchanged old new)
+    → MayFlip (record { registers = registers; activations = activations; store = old }) place at bit
+    → StandsForSome (record { registers = registers; activations = activations; store = new })
+unfolding StandsFor
+flip_some (Ok x) law registers activations old new place at bit turned same may =
+    ∥∥₁_map may (λ p. (
+      p.0,
+      Flips place at bit ∷ p.1,
+      record {
+        given = (p.2.given, p.3);
+        registers = p.2.registers;
+        activations = p.2.activations;
+        store = turned (shape_of p.0) (changes_of p.0 p.1) (visits p.0 p.1) p.2.store;
+      },
+    ))
+flip_some (Err e) law registers activations old new place at bit turned same may = stays_some law registers activations old new same (∥∥₁_map may (λ p. (p.0, p.1, p.2)))

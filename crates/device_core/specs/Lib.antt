@@ -4,5 +4,7 @@ pub mod Stored
 pub mod Rows
 pub mod Store
 pub mod Told
+pub mod Held
 pub mod Standing
+pub mod Access
 pub mod Scripts

@@ -15,7 +15,7 @@ use Rattle.device_core.specs.Store.{StandsFor as StoreFor, IsUnchanged as StoreU
 use Rattle.device_core.specs.Stored.{changes_of, visits}
 use Rattle.speed_bin.specs.Header.{shape_of}
 use Rattle.device_core.specs.Told.{told}
-use Rattle.device_core.specs.declared.device.Device.{Device}
+use Rattle.device_core.specs.Held.{Held}
 
 -- the bytes that are lent to a call, if there are any
 abbrev pub lent : Option (Bor (List ℕ)) → Option (List ℕ)
@@ -51,14 +51,14 @@ AllGiven h (Flips place device bit ∷ steps) = AllGiven h steps × IsBit h plac
 
 -- ---- The relation
 
-pub record Keeps (device : Device) (h : Header) (steps : List Step) : Type 0 where
+pub record Keeps (device : Held) (h : Header) (steps : List Step) : Type 0 where
   pub given : AllGiven h steps
   pub registers : device.registers ≡ told h (length (log_of steps))
   pub activations : RowsFor device.activations h (log_of steps)
   pub store : StoreFor device.store (shape_of h) (changes_of h steps) (visits h steps)
 
 -- the device stands for the list; how is its own affair
-unfoldable pub StandsFor : Device → Header → List Step → Type 0
+unfoldable pub StandsFor : Held → Header → List Step → Type 0
 StandsFor device h steps = Keeps device h steps
 
 -- the list with one command more
@@ -66,26 +66,22 @@ abbrev pub with_command : ℕ → Command → Option (List ℕ) → List Step �
 with_command clock command bytes steps = Issues (record { issued = record { clock = clock; command = command }; bytes = bytes }) ∷ steps
 
 -- the device stands for some list
-abbrev pub StandsForSome : Device → Type 0
+abbrev pub StandsForSome : Held → Type 0
 StandsForSome device = ∥ ((h : Header) × (steps : List Step) × StandsFor device h steps) ∥₁
 
--- the device stands for a list that the command may follow
-abbrev pub MayGive : Device → ℕ → Command → Option (List ℕ) → Type 0
-MayGive device clock command bytes = ∥ ((h : Header) × (steps : List Step) × (StandsFor device h steps) × IsGiven h clock command bytes steps) ∥₁
-
 -- the device stands for a list that the words may follow, under some header
-abbrev pub MayStep : Device → ℕ → Words → Option (List ℕ) → Type 0
+abbrev pub MayStep : Held → ℕ → Words → Option (List ℕ) → Type 0
 MayStep device clock words bytes = ∥ ((h : Header) × (steps : List Step) × (command : Command) × (StandsFor device h steps) × MayFollow h clock command words bytes steps) ∥₁
 
 -- the device stands for a list, and the bit is one of its header
-abbrev pub MayFlip : Device → Place → ℕ → ℕ → Type 0
+abbrev pub MayFlip : Held → Place → ℕ → ℕ → Type 0
 MayFlip device place at bit = ∥ ((h : Header) × (steps : List Step) × (StandsFor device h steps) × IsBit h place at bit) ∥₁
 
 -- every part of the device stays, and each stored word
-pub record Unchanged (old new : Device) : Type 0 where
+pub record Unchanged (old new : Held) : Type 0 where
   pub registers : new.registers ≡ old.registers
   pub activations : new.activations ≡ old.activations
   pub store : StoreUnchanged old.store new.store
 
-unfoldable pub IsUnchanged : Device → Device → Type 0
+unfoldable pub IsUnchanged : Held → Held → Type 0
 IsUnchanged old new = Unchanged old new

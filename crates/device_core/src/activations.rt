@@ -1,16 +1,18 @@
 //! The open rows of a legal log, and the activations of all rows.
-ghost use Rattle.std.specs.Prelude.{[], ◌∷◌, ◌≡◌, ◌≤◌, IfOk, is_some};
+ghost use Rattle.std.specs.Prelude.{[], ◌∷◌, ◌≡◌, ◌<◌, ◌≤◌, IfOk, IfSome, is_some};
 ghost use Rattle.command_words.specs.Command.{bank_number};
+ghost use Rattle.command_words.specs.Place.{IsInside};
 ghost use Rattle.device_core.specs.Legal.{IsLegal};
+ghost use Rattle.device_core.specs.Stored.{place_in};
 ghost use Rattle.row_activity.specs.Standing.{AreTold};
 ghost use Rattle.speed_bin.specs.Alert.{alert};
 ghost use Rattle.speed_bin.specs.Counts.{peak as peak_of};
-ghost use Rattle.speed_bin.specs.Header.{IsAccepted, bound};
+ghost use Rattle.speed_bin.specs.Header.{IsAccepted, bound, shape_of};
 ghost use Rattle.speed_bin.specs.Log.{Log, open_at};
 ghost use Rattle.speed_bin.specs.declared.header.Header.{Header as AnyHeader};
 
 use bank_state::Banks;
-use command_words::{Bank, Command, Row};
+use command_words::{Bank, Column, Command, Place};
 use ddr_io::OutOfMemory;
 use row_activity::Activity;
 use speed_bin::{Header, Settings};
@@ -38,11 +40,21 @@ impl Activations {
         })
     }
 
-    // The row that is open in the bank.
-    pub(crate) fn open_row(&self, bank: Bank) -> Option<Row>
-        ensures { (h : AnyHeader) (log : Log) → StandsFor self.now h log → result ≡ open_at (bank_number bank) log }
+    // The place of the column in the open row of the bank.
+    pub(crate) fn place(&self, bank: &Bank, column: Column) -> Option<Place>
+        requires { bank_number bank.now < 32 }
+        ensures place { (h : AnyHeader) (log : Log) → StandsFor self.now h log
+            → result ≡ place_in bank.now column (open_at (bank_number bank.now) log) }
+        ensures inside { IfSome result (λ place. (h : AnyHeader) (log : Log) → StandsFor self.now h log → IsInside place (shape_of h)) }
     {
-        self.rows.open_row(bank)
+        match self.rows.open_row(*bank) {
+            Some(row) => Some(Place {
+                bank: *bank,
+                row,
+                column,
+            }),
+            None => None,
+        }
     }
 
     // Whether the alert is raised.

@@ -1,37 +1,36 @@
 //! The device.
-ghost use Rattle.std.specs.Prelude.{ℕ, suc, ◌≡◌, ◌<◌, ◌≤◌, List, [], ◌∷◌, OnErr, OnOk, IfOk, IfSome, IsTrue, Option, Some, None, is_some, length};
-ghost use Rattle.command_words.specs.Command.{IsInRange, bank_number};
-ghost use Rattle.command_words.specs.Place.{IsInside};
+ghost use Rattle.std.specs.Prelude.{ℕ, suc, ◌≡◌, ◌≤◌, List, [], ◌∷◌, OnErr, OnOk, IfOk, IsTrue, is_some, length};
+ghost use Rattle.command_words.specs.Command.{IsInRange};
 ghost use Rattle.command_words.specs.Words.{Spells};
 ghost use Rattle.command_words.specs.declared.command.Command.{Command as AnyCommand};
 ghost use Rattle.speed_bin.specs.Alert.{alert};
 ghost use Rattle.speed_bin.specs.Counts.{peak as peak_of};
-ghost use Rattle.speed_bin.specs.Header.{IsAccepted, bound, shape_of};
+ghost use Rattle.speed_bin.specs.Header.{IsAccepted, bound};
 ghost use Rattle.command_words.specs.Kinds.{is_wr};
-ghost use Rattle.speed_bin.specs.Log.{Log, open_at};
+ghost use Rattle.speed_bin.specs.Log.{Log};
 ghost use Rattle.speed_bin.specs.declared.header.Header.{Header as AnyHeader};
-ghost use Rattle.error_scrub.specs.Cells.{cells_shape};
+ghost use Rattle.device_core.specs.Held.{Held};
 ghost use Rattle.device_core.specs.Legal.{IsLegal, AllLegal};
 ghost use Rattle.device_core.specs.Steps.{Step, Flips, log_of};
-ghost use Rattle.device_core.specs.Store.{StandsFor as StoreFor, IsUnchanged as StoreUnchanged};
-ghost use Rattle.device_core.specs.Stored.{also, answer, change_of, changes_of, visits, line_at, place_in, reading, scrub_counts as scrub_counts_of};
+ghost use Rattle.device_core.specs.Stored.{answer, scrub_counts as scrub_counts_of};
 ghost use Rattle.device_core.specs.Told.{told};
-ghost use Rattle.device_core.specs.declared.device.Device.{Device as AnyDevice};
-ghost use Rattle.command_words.specs.declared.command.Command.TheVariants.{Wr as AnyWr};
 
 use crate::Reply;
+use crate::access::access;
 use crate::activations::Activations;
 use crate::store::Store;
-use command_words::{Bank, Column, Command, Place, Words, decode};
+use command_words::{Command, Place, Words, decode};
 use ddr_io::OutOfMemory;
-use error_scrub::{LineRead, ScrubCounts, laws};
+use error_scrub::{ScrubCounts, laws};
 use mode_registers::{Registers, give_back};
 use speed_bin::Header;
 use std::alloc::Global;
+use std::marker::Model;
 
 /// The memory end of a subchannel: it applies the register writes, keeps its own open rows, stored lines and row
 /// counters, and raises ALERT. It stands for the list of the commands that it was given, each with the bytes of a WR,
-/// and of the bits that were turned in it.
+/// and of the bits that were turned in it. It keeps no such list, and yet there is always one for which it stands, under
+/// some header.
 #[derive(Drop)]
 pub struct Device {
     registers: Registers,
@@ -39,9 +38,32 @@ pub struct Device {
     store: Store,
 }
 
+impl Model for Device {
+    ghost use Rattle.std.specs.Prelude.{ℕ, List, Option, refl};
+    ghost use Rattle.std.specs.Coded.{code_by, coded×, coded_list, coded_option, coded_ℕ};
+    ghost use Rattle.device_core.specs.Held.{Held};
+    ghost use Rattle.device_core.specs.Standing.{StandsForSome};
+    ghost use Rattle.device_core.specs.contracts.activations.Activations.{the_row as activations_row};
+    ghost use Rattle.device_core.specs.contracts.store.Store.{the_row as store_row};
+    ghost use Rattle.device_core.specs.declared.activations.Activations.{Activations};
+    ghost use Rattle.device_core.specs.declared.store.Store.{Store};
+
+    ghost Value = { Held };
+
+    ghost coded = { code_by (List (Option ℕ) × (Activations × Store))
+        (coded× (coded_list (coded_option coded_ℕ)) (coded× activations_row.coded store_row.coded))
+        (λ d. (d.registers, (d.activations, d.store)))
+        (λ p. record { registers = p.0; activations = p.1.0; store = p.1.1 })
+        (λ _. refl) };
+
+    ghost view = { λ d. record { registers = d.registers; activations = d.activations; store = d.store } };
+
+    ghost invariant = { λ d. StandsForSome (record { registers = d.registers; activations = d.activations; store = d.store }) };
+}
+
 #[tactic(auto, unfolding(crate::specs::Standing::StandsFor, crate::specs::Standing::IsUnchanged))]
 impl Device {
-    ghost use Rattle.device_core.specs.Standing.{StandsFor, MayFollow, MayStep, MayFlip, MayGive, IsGiven, AllGiven, IsBit, IsUnchanged, StandsForSome, with_command, lent};
+    ghost use Rattle.device_core.specs.Standing.{StandsFor, MayFollow, MayStep, MayFlip, AllGiven, IsBit, IsUnchanged, StandsForSome, with_command, lent};
 
     /// A device before its first command: no register is written, all banks are closed, and every line is zero. It makes
     /// the counters of all rows.
@@ -78,8 +100,9 @@ impl Device {
         ensures only_writes { OnErr result ((command : AnyCommand) → IsInRange command → Spells command words → IsTrue (is_wr command)) }
     {
         give_back();
+        Device::unchanged_stands();
         let command = decode(words).unwrap();
-        let line = self.access(clock, &command, bytes)?;
+        let line = access(&self.activations, &mut self.store, clock, &command, bytes)?;
         tell(&mut self.registers, &command);
         let told = self.registers.settings();
         self.activations.issue(clock, &command, told);
@@ -97,12 +120,14 @@ impl Device {
             → StandsFor self.new h (Flips place device bit ∷ steps)) }
         ensures err { OnErr result (IsUnchanged self.old self.new) }
     {
+        Device::unchanged_stands();
         self.store.flip(place, device, bit)
     }
 
     /// What the scrub found so far.
     pub fn scrub_counts(&self) -> ScrubCounts
-        ensures { (h : AnyHeader) (steps : List Step) → StandsFor self.now h steps → result ≡ scrub_counts_of h steps }
+        ensures counts { (h : AnyHeader) (steps : List Step) → StandsFor self.now h steps → result ≡ scrub_counts_of h steps }
+        ensures stands { StandsForSome self.now }
     {
         self.store.counts()
     }
@@ -112,13 +137,14 @@ impl Device {
     pub fn peak(&self) -> u32
         ensures peak { (h : AnyHeader) (steps : List Step) → StandsFor self.now h steps → result ≡ peak_of h (log_of steps) }
         ensures bounded { (h : AnyHeader) (steps : List Step) → StandsFor self.now h steps → result ≤ bound h }
+        ensures stands { StandsForSome self.now }
     {
         self.activations.peak()
     }
 
     /// A law: a device that is as it was stands for the lists that it stood for.
     pub fn unchanged_stands()
-        ensures { (old new : AnyDevice) (h : AnyHeader) (steps : List Step) → IsUnchanged old new → StandsFor old h steps → StandsFor new h steps }
+        ensures { (old new : Held) (h : AnyHeader) (steps : List Step) → IsUnchanged old new → StandsFor old h steps → StandsFor new h steps }
     {
         laws::cells_stand();
     }
@@ -126,109 +152,10 @@ impl Device {
     /// A law: the header is accepted, each command of the list was legal in its place, and each step had its bytes or
     /// turned a bit that there is.
     pub fn list_is_legal()
-        ensures accepted { (device : AnyDevice) (h : AnyHeader) (steps : List Step) → StandsFor device h steps → IsAccepted h }
-        ensures legal { (device : AnyDevice) (h : AnyHeader) (steps : List Step) → StandsFor device h steps → AllLegal h (log_of steps) }
-        ensures given { (device : AnyDevice) (h : AnyHeader) (steps : List Step) → StandsFor device h steps → AllGiven h steps }
+        ensures accepted { (device : Held) (h : AnyHeader) (steps : List Step) → StandsFor device h steps → IsAccepted h }
+        ensures legal { (device : Held) (h : AnyHeader) (steps : List Step) → StandsFor device h steps → AllLegal h (log_of steps) }
+        ensures given { (device : Held) (h : AnyHeader) (steps : List Step) → StandsFor device h steps → AllGiven h steps }
     {}
-
-    // What the command reads, and what it does to the stored lines.
-    fn access(
-        &mut self,
-        clock: u64,
-        command: &Command,
-        bytes: Option<&[u8; 64]>,
-    ) -> Result<Option<LineRead>, OutOfMemory>
-        requires { MayGive self.old clock command.now (lent bytes) }
-        ensures registers { self.new.registers ≡ self.old.registers }
-        ensures activations { self.new.activations ≡ self.old.activations }
-        ensures store { OnOk result ((h : AnyHeader) (steps : List Step) → StandsFor self.old h steps
-            → IsGiven h clock command.now (lent bytes.entry) steps
-            → StoreFor self.new.store (shape_of h) (changes_of h (with_command clock command.now (lent bytes.entry) steps))
-            (visits h (with_command clock command.now (lent bytes.entry) steps))) }
-        ensures line { IfOk result (λ line. (h : AnyHeader) (steps : List Step) → StandsFor self.old h steps
-            → IsGiven h clock command.now (lent bytes.entry) steps → line ≡ answer h command.now steps) }
-        ensures err { OnErr result (StoreUnchanged self.old.store self.new.store) }
-        ensures only_writes { OnErr result (IsTrue (is_wr command.now)) }
-    {
-        match command {
-            Command::Rd(bank, column) => Ok(self.read(bank, *column)),
-            Command::Wr(bank, column) => {
-                self.write(bank, *column, bytes)?;
-                Ok(None)
-            }
-            Command::Ecs => {
-                self.store.scrub();
-                Ok(None)
-            }
-            Command::Act(..)
-            | Command::PrePb(_)
-            | Command::PreSb(_)
-            | Command::PreAb
-            | Command::RefAb
-            | Command::RefSb(_)
-            | Command::RfmAb
-            | Command::RfmSb(_)
-            | Command::Mrw(_)
-            | Command::Nop => Ok(None),
-        }
-    }
-
-    // The place of the column in the open row of the bank.
-    fn place(&self, bank: &Bank, column: Column) -> Option<Place>
-        requires bank { bank_number bank.now < 32 }
-        requires stands { StandsForSome self.now }
-        ensures place { (h : AnyHeader) (steps : List Step) → StandsFor self.now h steps
-            → result ≡ place_in bank.now column (open_at (bank_number bank.now) (log_of steps)) }
-        ensures inside { IfSome result (λ place. IsInside place (cells_shape self.now.store.cells)) }
-    {
-        match self.activations.open_row(*bank) {
-            Some(row) => Some(Place {
-                bank: *bank,
-                row,
-                column,
-            }),
-            None => None,
-        }
-    }
-
-    // What a reading of the column in the open row of the bank finds.
-    fn read(&self, bank: &Bank, column: Column) -> Option<LineRead>
-        requires bank { bank_number bank.now < 32 }
-        requires stands { StandsForSome self.now }
-        ensures { (h : AnyHeader) (steps : List Step) → StandsFor self.now h steps
-            → IsTrue (is_some (open_at (bank_number bank.now) (log_of steps)))
-            → result ≡ Some (reading (changes_of h steps) (line_at h bank.now column (log_of steps))) }
-    {
-        match self.place(bank, column) {
-            Some(place) => Some(self.store.read(place)),
-            // A legal RD has an open row.
-            None => None,
-        }
-    }
-
-    // The column in the open row of the bank becomes these bytes.
-    fn write(
-        &mut self,
-        bank: &Bank,
-        column: Column,
-        bytes: Option<&[u8; 64]>,
-    ) -> Result<(), OutOfMemory>
-        requires bank { bank_number bank.now < 32 }
-        requires stands { StandsForSome self.old }
-        ensures rest { self.new ≡ record self.old { store = self.new.store } }
-        ensures ok { OnOk result ((h : AnyHeader) (steps : List Step) → StandsFor self.old h steps
-            → IsTrue (is_some (open_at (bank_number bank.now) (log_of steps))) → IsTrue (is_some (lent bytes.entry))
-            → StoreFor self.new.store (shape_of h)
-            (also (change_of h (AnyWr bank.now column) (lent bytes.entry) (log_of steps)) (changes_of h steps)) (visits h steps)) }
-        ensures err { OnErr result (StoreUnchanged self.old.store self.new.store) }
-    {
-        match (self.place(bank, column), bytes) {
-            (Some(place), Some(bytes)) => self.store.write(place, bytes),
-            // A legal WR has an open row and its bytes.
-            (Some(_), None) => Ok(()),
-            (None, _) => Ok(()),
-        }
-    }
 }
 
 // Applies a register write. A legal list writes no register that there is not, and no value that one cannot hold.

@@ -25,7 +25,7 @@ use Rattle.scheduler.specs.declared.turn.Turn.{Turn}
 use Rattle.scheduler.specs.declared.turn.Turn.TheVariants.{Issue, Idle, Done}
 use Rattle.device_core.specs.Standing.{StandsFor as DeviceFor, MayFollow}
 use Rattle.device_core.specs.Steps.{log_of as device_log}
-use Rattle.device_core.specs.declared.device.Device.{Device}
+use Rattle.device_core.specs.Held.{Held as DeviceHeld}
 use Rattle.trace_replay.specs.Coupled.{Step, Delivers, Flips, log_of, controller_steps, device_steps, with_pending, issued_as, issued_in, step_of, IsDue, IsDueIfAny, IsAwaited, delivered, Keeps, StandsFor, After, controller_of, pending_of}
 use Rattle.trace_replay.specs.declared.coupled.Pending.{Pending}
 use Rattle.trace_replay.specs.declared.coupled.Coupled.{Coupled}
@@ -170,7 +170,7 @@ may_follow c h offered idle steps p words bytes s here awaited spelled in_range 
       };
     }
 
-pub after_delivery : (c : Coupled) (h : Header) (offered : List Request) (idle : ℕ) (steps : List Step) (p : Pending) (bytes : Option (List ℕ)) (device : Device) (raised : Bool)
+pub after_delivery : (c : Coupled) (h : Header) (offered : List Request) (idle : ℕ) (steps : List Step) (p : Pending) (bytes : Option (List ℕ)) (device : DeviceHeld) (raised : Bool)
     → Keeps c h offered idle steps → c.pending ≡ Some p
     → DeviceFor device h (device_steps (delivered (step_of p) bytes ∷ steps)) → raised ≡ is_some (alert h (device_log (device_steps (delivered (step_of p) bytes ∷ steps))))
     → Keeps (record { controller = c.controller; device = device; pending = None; alert = raised }) h offered idle (delivered (step_of p) bytes ∷ steps)

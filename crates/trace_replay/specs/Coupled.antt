@@ -18,7 +18,7 @@ use Rattle.scheduler.specs.declared.turn.Turn.{Turn}
 use Rattle.scheduler.specs.declared.turn.Turn.TheVariants.{Issue, Idle, Done}
 use Rattle.device_core.specs.Standing.{StandsFor as DeviceFor}
 use Rattle.device_core.specs.Steps.{Step as DeviceStep, Issues as Gives, Flips as Turns}
-use Rattle.device_core.specs.declared.device.Device.{Device}
+use Rattle.device_core.specs.Held.{Held as DeviceHeld}
 use Rattle.trace_replay.specs.declared.coupled.Pending.{Pending}
 use Rattle.trace_replay.specs.declared.coupled.Coupled.{Coupled}
 
@@ -101,7 +101,7 @@ StandsFor c h offered idle steps = Keeps c h offered idle steps
 unfoldable pub controller_of : Coupled → Controller
 controller_of c = c.controller
 
-unfoldable pub device_of : Coupled → Device
+unfoldable pub device_of : Coupled → DeviceHeld
 device_of c = c.device
 
 -- the command that was issued and not delivered yet
