@@ -18,7 +18,7 @@ use Rattle.deadlines.specs.declared.task.Task.TheVariants.{RfmAll, Ecs, RefAll, 
 use Rattle.scheduler.specs.Controller.{IsTasked}
 use Rattle.scheduler.specs.Steps.{IsAwake, IsErrand, IsFree, IsPatient, refresh_task}
 use Rattle.scheduler.specs.declared.choice.Candidate.{Candidate}
-use Rattle.scheduler.specs.declared.controller.Controller.{Controller}
+use Rattle.scheduler.specs.declared.state.State.{State}
 use Rattle.scheduler.proofs.Tools.{le_or_gt}
 use Rattle.scheduler.proofs.Tasked.{never_calm}
 
@@ -42,7 +42,7 @@ some_choice None t e f = cc
 some_choice (Some x) t e f = refl
 
 -- there is a candidate in time, and nothing else is due
-pub patient_of : (c : Controller) (h : Header) (offered : List Request) (idle : ℕ) (log : List Step) (choice : Option Candidate) (soonest last : ℕ) → IsAwake c h offered idle log → after c.alert c.header.timing.nabo ≡ Some last → c.task ≡ None → IsSome choice → soonest ≤ last → (IsEcsDue h (places log) → ⊥) → IsNothingDue h soonest (places log) → is_wanted h RfmAb (places log) ≡ false → IsPatient c h (places log) choice soonest
+pub patient_of : (c : State) (h : Header) (offered : List Request) (idle : ℕ) (log : List Step) (choice : Option Candidate) (soonest last : ℕ) → IsAwake c h offered idle log → after c.alert c.header.timing.nabo ≡ Some last → c.task ≡ None → IsSome choice → soonest ≤ last → (IsEcsDue h (places log) → ⊥) → IsNothingDue h soonest (places log) → is_wanted h RfmAb (places log) ≡ false → IsPatient c h (places log) choice soonest
 patient_of c h offered idle log choice soonest last a e untasked candidate le no_scrub no_refresh no_management = λ raised f.
     let g : after c.alert h.timing.nabo ≡ Some last = subst (λ (x : Header). after c.alert x.timing.nabo ≡ Some last) a.holds.header e in
     let k = after_is c.alert raised h.timing.nabo last (a.seen ∙ f) g in record {
@@ -54,10 +54,10 @@ patient_of c h offered idle log choice soonest last a e untasked candidate le no
       no_management = no_management;
     }
 
-pub calm_patient : (c : Controller) (h : Header) (offered : List Request) (idle : ℕ) (log : List Step) (choice : Option Candidate) (soonest : ℕ) → IsAwake c h offered idle log → c.alert ≡ None → IsPatient c h (places log) choice soonest
+pub calm_patient : (c : State) (h : Header) (offered : List Request) (idle : ℕ) (log : List Step) (choice : Option Candidate) (soonest : ℕ) → IsAwake c h offered idle log → c.alert ≡ None → IsPatient c h (places log) choice soonest
 calm_patient c h offered idle log choice soonest a e = λ raised f. absurd (let g = a.seen in cc)
 
-pub raised_of : (c : Controller) (h : Header) (offered : List Request) (idle : ℕ) (log : List Step) (n last : ℕ) → IsAwake c h offered idle log → after c.alert n ≡ Some last → IsSome (alert h (places log))
+pub raised_of : (c : State) (h : Header) (offered : List Request) (idle : ℕ) (log : List Step) (n last : ℕ) → IsAwake c h offered idle log → after c.alert n ≡ Some last → IsSome (alert h (places log))
 raised_of c h offered idle log n last a e = go c.alert a.seen e
   where
     go : (o : Option ℕ) → o ≡ alert h (places log) → after o n ≡ Some last → IsSome (alert h (places log))
@@ -71,7 +71,7 @@ calm_unless (Some a) h = absurd (h a refl)
 
 -- ---- The cases
 
-pub backs_off : (c : Controller) (h : Header) (offered : List Request) (idle : ℕ) (log : List Step) (soonest : ℕ) → IsAwake c h offered idle log → IsSome (alert h (places log)) → c.ledger.from ≤ soonest → IsErrand c h (places log) soonest (record { task = RfmAll; start = c.ledger.from })
+pub backs_off : (c : State) (h : Header) (offered : List Request) (idle : ℕ) (log : List Step) (soonest : ℕ) → IsAwake c h offered idle log → IsSome (alert h (places log)) → c.ledger.from ≤ soonest → IsErrand c h (places log) soonest (record { task = RfmAll; start = c.ledger.from })
 backs_off c h offered idle log soonest a some le = go (alert h (places log)) refl some
   where
     go : (o : Option ℕ) → alert h (places log) ≡ o → IsSome o → IsErrand c h (places log) soonest (record { task = RfmAll; start = c.ledger.from })
@@ -84,7 +84,7 @@ backs_off c h offered idle log soonest a some le = go (alert h (places log)) ref
       cause = never_calm h (places log) c.ledger.from soonest RfmAll a.holds.accepted.timing.nrefi.0 le t;
     }
 
-pub goes_on : (c : Controller) (h : Header) (offered : List Request) (idle : ℕ) (log : List Step) (choice : Option Candidate) (soonest : ℕ) (task : Task) → IsAwake c h offered idle log → IsPatient c h (places log) choice soonest → c.task ≡ Some task → c.ledger.from ≤ soonest → IsErrand c h (places log) soonest (record { task = task; start = c.ledger.from })
+pub goes_on : (c : State) (h : Header) (offered : List Request) (idle : ℕ) (log : List Step) (choice : Option Candidate) (soonest : ℕ) (task : Task) → IsAwake c h offered idle log → IsPatient c h (places log) choice soonest → c.task ≡ Some task → c.ledger.from ≤ soonest → IsErrand c h (places log) soonest (record { task = task; start = c.ledger.from })
 goes_on c h offered idle log choice soonest task a patient e le =
     let t = subst (λ (o : Option Task). IsTasked h (places log) c.ledger.from o) e a.holds.tasked in record {
       decides = GoesOn (calm_unless (alert h (places log)) (λ raised f. let w = (patient raised f).untasked in cc)) e refl;
@@ -94,7 +94,7 @@ goes_on c h offered idle log choice soonest task a patient e le =
       cause = never_calm h (places log) c.ledger.from soonest task a.holds.accepted.timing.nrefi.0 le t;
     }
 
-pub scrubs : (c : Controller) (h : Header) (offered : List Request) (idle : ℕ) (log : List Step) (choice : Option Candidate) (soonest : ℕ) → IsAwake c h offered idle log → IsPatient c h (places log) choice soonest → c.task ≡ None → IsEcsDue h (places log) → c.ledger.from ≤ soonest → IsErrand c h (places log) soonest (record { task = Ecs; start = c.ledger.from })
+pub scrubs : (c : State) (h : Header) (offered : List Request) (idle : ℕ) (log : List Step) (choice : Option Candidate) (soonest : ℕ) → IsAwake c h offered idle log → IsPatient c h (places log) choice soonest → c.task ≡ None → IsEcsDue h (places log) → c.ledger.from ≤ soonest → IsErrand c h (places log) soonest (record { task = Ecs; start = c.ledger.from })
 scrubs c h offered idle log choice soonest a patient untasked due le = record {
   decides = Scrubs (calm_unless (alert h (places log)) (λ raised f. (patient raised f).no_scrub due)) untasked due refl refl;
   late = omega arith;
@@ -103,7 +103,7 @@ scrubs c h offered idle log choice soonest a patient untasked due le = record {
   cause = never_calm h (places log) c.ledger.from soonest Ecs a.holds.accepted.timing.nrefi.0 le due;
 }
 
-pub refreshes : (c : Controller) (h : Header) (offered : List Request) (idle : ℕ) (log : List Step) (choice : Option Candidate) (soonest next start : ℕ) (due : Due) → IsAwake c h offered idle log → IsPatient c h (places log) choice soonest → c.task ≡ None → (IsEcsDue h (places log) → ⊥) → LooksTo h (places log) c.ledger.from c.until soonest → (IsNothingDue h soonest (places log) → ⊥) → IsNextDue h (places log) next → start ≡ max c.ledger.from next → (h.settings.refresh ≡ RefreshMode.All → due ≡ All) → (h.settings.refresh ≡ RefreshMode.Same → IsDueFirst h soonest (places log) due) → c.ledger.from ≤ soonest → IsErrand c h (places log) soonest (record { task = refresh_task due; start = start })
+pub refreshes : (c : State) (h : Header) (offered : List Request) (idle : ℕ) (log : List Step) (choice : Option Candidate) (soonest next start : ℕ) (due : Due) → IsAwake c h offered idle log → IsPatient c h (places log) choice soonest → c.task ≡ None → (IsEcsDue h (places log) → ⊥) → LooksTo h (places log) c.ledger.from c.until soonest → (IsNothingDue h soonest (places log) → ⊥) → IsNextDue h (places log) next → start ≡ max c.ledger.from next → (h.settings.refresh ≡ RefreshMode.All → due ≡ All) → (h.settings.refresh ≡ RefreshMode.Same → IsDueFirst h soonest (places log) due) → c.ledger.from ≤ soonest → IsErrand c h (places log) soonest (record { task = refresh_task due; start = start })
 refreshes c h offered idle log choice soonest next start due a patient untasked no_scrub looks is_due is_next starts all same le = by_mode h.settings.refresh refl
   where
     some : 1 ≤ h.timing.nrefi
@@ -142,7 +142,7 @@ refreshes c h offered idle log choice soonest next start due a patient untasked 
     by_mode RefreshMode.All mode = subst (λ (d : Due). IsErrand c h (places log) soonest (record { task = refresh_task d; start = start })) (sym (all mode)) (of_task RefAll (RefreshesAll calm untasked no_scrub mode refl from_due) still_due)
     by_mode RefreshMode.Same mode = by_due due mode (same mode)
 
-pub manages : (c : Controller) (h : Header) (offered : List Request) (idle : ℕ) (log : List Step) (choice : Option Candidate) (soonest address : ℕ) → IsAwake c h offered idle log → IsPatient c h (places log) choice soonest → c.task ≡ None → (IsEcsDue h (places log) → ⊥) → IsNothingDue h soonest (places log) → IsTrue (is_wanted h (RfmSb address) (places log)) → (is_wanted h RfmAb (places log) ≡ false → ⊥) → c.ledger.from ≤ soonest → IsErrand c h (places log) soonest (record { task = RfmSame address; start = c.ledger.from })
+pub manages : (c : State) (h : Header) (offered : List Request) (idle : ℕ) (log : List Step) (choice : Option Candidate) (soonest address : ℕ) → IsAwake c h offered idle log → IsPatient c h (places log) choice soonest → c.task ≡ None → (IsEcsDue h (places log) → ⊥) → IsNothingDue h soonest (places log) → IsTrue (is_wanted h (RfmSb address) (places log)) → (is_wanted h RfmAb (places log) ≡ false → ⊥) → c.ledger.from ≤ soonest → IsErrand c h (places log) soonest (record { task = RfmSame address; start = c.ledger.from })
 manages c h offered idle log choice soonest address a patient untasked no_scrub nothing wanted some le = record {
   decides = ManagesSame address soonest (calm_unless (alert h (places log)) (λ raised f. some (patient raised f).no_management)) untasked no_scrub le nothing refl refl;
   late = omega arith;
@@ -151,7 +151,7 @@ manages c h offered idle log choice soonest address a patient untasked no_scrub 
   cause = never_calm h (places log) c.ledger.from soonest (RfmSame address) a.holds.accepted.timing.nrefi.0 le wanted;
 }
 
-pub free_of : (c : Controller) (h : Header) (log : Log) (choice : Option Candidate) (soonest : ℕ) → IsPatient c h log choice soonest → c.task ≡ None → (IsEcsDue h log → ⊥) → IsNothingDue h soonest log → is_wanted h RfmAb log ≡ false → IsFree c h log choice soonest
+pub free_of : (c : State) (h : Header) (log : Log) (choice : Option Candidate) (soonest : ℕ) → IsPatient c h log choice soonest → c.task ≡ None → (IsEcsDue h log → ⊥) → IsNothingDue h soonest log → is_wanted h RfmAb log ≡ false → IsFree c h log choice soonest
 free_of c h log choice soonest patient untasked no_scrub no_refresh no_management = record {
   untasked = untasked;
   no_scrub = no_scrub;

@@ -26,7 +26,7 @@ use Rattle.scheduler.specs.Steps.{IsAwake, IsFree, IsReadyFor, all_asked, id_for
 use Rattle.scheduler.specs.declared.choice.Candidate.{Candidate}
 use Rattle.scheduler.specs.declared.choice.Class.{Class}
 use Rattle.scheduler.specs.declared.choice.Class.TheVariants.{Column, Activate, Precharge}
-use Rattle.scheduler.specs.declared.controller.Controller.{Controller}
+use Rattle.scheduler.specs.declared.state.State.{State}
 use Rattle.scheduler.proofs.First.{none_found, get-inside}
 use Rattle.scheduler.proofs.Tools.{any_below_false}
 use Rattle.scheduler.proofs.Parts.{length-places, at_least, not_empty, hit_of, first_of, takes_of, has_of, column_is, column_fits, column_spares, column_ninth, column_tenth, column_twelfth, column_fourteenth, column_chosen, column_prompt, never_excused}
@@ -36,7 +36,7 @@ use Rattle.scheduler.proofs.Parts.{length-places, at_least, not_empty, hit_of, f
 pub record IsSoon (clock start : ℕ) : Type 0 where
   pub within : clock + 1 ≤ start + 16384
 
-pub soon_of : (laws : Laws) (c : Controller) (h : Header) (offered : List Request) (idle : ℕ) (log : List Step) (start clock : ℕ) (command : Command) → Holds h c offered idle log → c.ledger.from ≤ start → IsSoonest h (places log) start command clock → IsSoon clock start
+pub soon_of : (laws : Laws) (c : State) (h : Header) (offered : List Request) (idle : ℕ) (log : List Step) (start clock : ℕ) (command : Command) → Holds h c offered idle log → c.ledger.from ≤ start → IsSoonest h (places log) start command clock → IsSoon clock start
 soon_of laws c h offered idle log start clock command s le e =
     let a = laws.deadlines.within h (places log) c.task c.ledger.from c.until idle (banks_of c.queue.items) (length offered) s.accepted s.deadlines start clock command le e in
     let b = laws.deadlines.small h s.accepted in
@@ -173,7 +173,7 @@ moves_of laws Precharge w h offered log ws finished b at clock r wants here low 
 
 -- ---- All of it
 
-pub offer_ready : (laws : Laws) (c : Controller) (h : Header) (offered : List Request) (idle : ℕ) (log : List Step) (candidate : Candidate) → IsAwake c h offered idle log → c.ledger.from < 2 ^ 47 → 8 ≤ length log → IsFree c h (places log) (Some candidate) candidate.clock → IsBest h c.queue.items (places log) c.ledger.from all_asked candidate → IsReadyFor c c.ledger.from c.until c.finished h offered idle log candidate None
+pub offer_ready : (laws : Laws) (c : State) (h : Header) (offered : List Request) (idle : ℕ) (log : List Step) (candidate : Candidate) → IsAwake c h offered idle log → c.ledger.from < 2 ^ 47 → 8 ≤ length log → IsFree c h (places log) (Some candidate) candidate.clock → IsBest h c.queue.items (places log) c.ledger.from all_asked candidate → IsReadyFor c c.ledger.from c.until c.finished h offered idle log candidate None
 offer_ready laws c h offered idle log candidate a bound started free best = record {
   inside = get-inside c.queue.items candidate.at best.is_candidate.waiting best.is_candidate.here;
   soon = (let s = soon_of laws c h offered idle log c.ledger.from candidate.clock (command_for candidate.class best.is_candidate.waiting) a.holds (omega arith) best.is_candidate.soonest in let within = s.within in omega (arith, within));

@@ -27,7 +27,7 @@ use Rattle.scheduler.specs.Steps.{IsAwake, IsChoice, IsFree, Waits, Urges, Urges
 use Rattle.scheduler.specs.declared.choice.Candidate.{Candidate}
 use Rattle.scheduler.specs.declared.choice.Class.{Class}
 use Rattle.scheduler.specs.declared.choice.Class.TheVariants.{Column, Activate, Precharge}
-use Rattle.scheduler.specs.declared.controller.Controller.{Controller}
+use Rattle.scheduler.specs.declared.state.State.{State}
 use Rattle.scheduler.specs.declared.turn.Turn.{Turn}
 use Rattle.scheduler.proofs.First.{none_found}
 use Rattle.scheduler.proofs.Parts.{hit_of, first_of, not_empty}
@@ -114,7 +114,7 @@ offers_of Precharge ws log b at w wants here =
     }) first refl
 
 -- the best candidate's clock is e0
-first_clock : (laws : Laws) (c : Controller) (h : Header) (offered : List Request) (idle : ℕ) (log : List Step) (candidate : Candidate) → Holds h c offered idle log → IsBest h c.queue.items (places log) c.ledger.from all_asked candidate → IsFirstClock h c.queue.items (places log) c.ledger.from candidate.clock
+first_clock : (laws : Laws) (c : State) (h : Header) (offered : List Request) (idle : ℕ) (log : List Step) (candidate : Candidate) → Holds h c offered idle log → IsBest h c.queue.items (places log) c.ledger.from all_asked candidate → IsFirstClock h c.queue.items (places log) c.ledger.from candidate.clock
 first_clock laws c h offered idle log candidate s best =
     let i = best.is_candidate in record {
       command = command_for candidate.class i.waiting;
@@ -132,7 +132,7 @@ first_clock laws c h offered idle log candidate s best =
 
 -- ---- A reason to stop
 
-pub pressed_of : (laws : Laws) (c : Controller) (h : Header) (offered : List Request) (idle : ℕ) (log : List Step) (choice : Option Candidate) (soonest raised : ℕ) → IsAwake c h offered idle log → IsChoice c h (places log) choice → soonest ≡ soonest_in choice c.ledger.from c.until → Urges c h (places log) choice soonest raised → IsPressed h (waiting h offered log) (places log) c.ledger.from c.task raised
+pub pressed_of : (laws : Laws) (c : State) (h : Header) (offered : List Request) (idle : ℕ) (log : List Step) (choice : Option Candidate) (soonest raised : ℕ) → IsAwake c h offered idle log → IsChoice c h (places log) choice → soonest ≡ soonest_in choice c.ledger.from c.until → Urges c h (places log) choice soonest raised → IsPressed h (waiting h offered log) (places log) c.ledger.from c.task raised
 pressed_of laws c h offered idle log choice soonest raised a i e urged =
     subst (λ ws. IsPressed h ws (places log) c.ledger.from c.task raised) a.holds.requested.waits (go choice i e urged)
   where
@@ -149,7 +149,7 @@ none_of : (o : Option Task) → o ≡ None → IsSome o → ⊥
 none_of None e f = cc
 none_of (Some x) e f = cc
 
-pub not_pressed : (c : Controller) (h : Header) (offered : List Request) (idle : ℕ) (log : List Step) (choice : Option Candidate) (soonest raised : ℕ) → IsAwake c h offered idle log → IsChoice c h (places log) choice → soonest ≡ soonest_in choice c.ledger.from c.until → Waits c h (places log) choice soonest raised → IsPressed h (waiting h offered log) (places log) c.ledger.from c.task raised → ⊥
+pub not_pressed : (c : State) (h : Header) (offered : List Request) (idle : ℕ) (log : List Step) (choice : Option Candidate) (soonest raised : ℕ) → IsAwake c h offered idle log → IsChoice c h (places log) choice → soonest ≡ soonest_in choice c.ledger.from c.until → Waits c h (places log) choice soonest raised → IsPressed h (waiting h offered log) (places log) c.ledger.from c.task raised → ⊥
 not_pressed c h offered idle log choice soonest raised a i e waits pressed =
     go choice i e waits (subst (λ ws. IsPressed h ws (places log) c.ledger.from c.task raised) (sym a.holds.requested.waits) pressed)
   where
@@ -169,7 +169,7 @@ not_pressed c h offered idle log choice soonest raised a i e waits pressed =
     go (Some candidate) i e w (RfmIsWanted wanted) = let none = w.no_management in cc
 
 -- where no task is to be served, a raised alert waits
-pub waits_of : (c : Controller) (h : Header) (log : Log) (choice : Option Candidate) (soonest raised : ℕ) → alert h log ≡ Some raised → IsFree c h log choice soonest → Waits c h log choice soonest raised
+pub waits_of : (c : State) (h : Header) (log : Log) (choice : Option Candidate) (soonest raised : ℕ) → alert h log ≡ Some raised → IsFree c h log choice soonest → Waits c h log choice soonest raised
 waits_of c h log choice soonest raised e f = record {
   untasked = f.untasked;
   candidate = f.candidate raised e;
@@ -186,7 +186,7 @@ after_is None raised n last e f = cc
 after_is (Some a) raised n last e f = let g : a ≡ raised = cc in let k : a + n ≡ last = cc in omega (arith, g, k)
 
 -- the end of the alert's window, as the controller knows it
-pub window_end : (c : Controller) (h : Header) (offered : List Request) (idle : ℕ) (log : List Step) (raised last : ℕ) → IsAwake c h offered idle log → alert h (places log) ≡ Some raised → after c.alert c.header.timing.nabo ≡ Some last → last ≡ raised + h.timing.nabo
+pub window_end : (c : State) (h : Header) (offered : List Request) (idle : ℕ) (log : List Step) (raised last : ℕ) → IsAwake c h offered idle log → alert h (places log) ≡ Some raised → after c.alert c.header.timing.nabo ≡ Some last → last ≡ raised + h.timing.nabo
 window_end c h offered idle log raised last a e f =
     let g : after c.alert h.timing.nabo ≡ Some last = subst (λ (x : Header). after c.alert x.timing.nabo ≡ Some last) a.holds.header f in
     after_is c.alert raised h.timing.nabo last (a.seen ∙ e) g
@@ -222,5 +222,5 @@ not_answered turn next e f (inl x) = let k : true ≡ false = sym x ∙ e in cc
 not_answered turn next e f (inr x) = let k : Some RfmAll ≡ None = sym x ∙ f in cc
 
 -- the same of the controller before it saw the alert
-pub answers_seen : (turn : Turn) (next : Option Task) (old seen : Controller) (h : Header) (ws : List Waiting) (log : Log) (raised : ℕ) → seen ≡ record old { alert = seen.alert } → (AnswersAlert turn next ↔ IsPressed h ws log seen.ledger.from seen.task raised) → (AnswersAlert turn next ↔ IsPressed h ws log old.ledger.from old.task raised)
-answers_seen turn next old seen h ws log raised same k = subst (λ (x : Controller). AnswersAlert turn next ↔ IsPressed h ws log x.ledger.from x.task raised) same k
+pub answers_seen : (turn : Turn) (next : Option Task) (old seen : State) (h : Header) (ws : List Waiting) (log : Log) (raised : ℕ) → seen ≡ record old { alert = seen.alert } → (AnswersAlert turn next ↔ IsPressed h ws log seen.ledger.from seen.task raised) → (AnswersAlert turn next ↔ IsPressed h ws log old.ledger.from old.task raised)
+answers_seen turn next old seen h ws log raised same k = subst (λ (x : State). AnswersAlert turn next ↔ IsPressed h ws log x.ledger.from x.task raised) same k

@@ -18,13 +18,13 @@ use Rattle.deadlines.specs.Standing.{Keeps}
 use Rattle.deadlines.specs.declared.task.Task.{Task}
 use Rattle.scheduler.specs.Controller.{Holds, IsSeen, IsTasked, Issues, StandsFor, banks_of, excused, from_of}
 use Rattle.scheduler.specs.Laws.{Laws, Kept}
-use Rattle.scheduler.specs.Ledger.{StandsFor as LedgerStandsFor, Suits, MayIssue}
+use Rattle.scheduler.specs.Ledger.{StandsFor as LedgerStandsFor, Suits}
 use Rattle.scheduler.specs.Choice.{command_for}
 use Rattle.scheduler.specs.Steps.{IsReady, alert_left, id_for, queue_after}
 use Rattle.scheduler.specs.declared.choice.Class.{Class}
 use Rattle.scheduler.specs.declared.choice.Class.TheVariants.{Column, Activate, Precharge}
 use Rattle.std.specs.List.{remove}
-use Rattle.scheduler.specs.declared.controller.Controller.{Controller}
+use Rattle.scheduler.specs.declared.state.State.{State}
 use Rattle.scheduler.specs.declared.ledger.Ledger.{Ledger}
 use Rattle.scheduler.proofs.Spaced.{up_to_more}
 use Rattle.scheduler.proofs.Tools.{none_failing}
@@ -35,17 +35,17 @@ eleventh true true o h = refl
 eleventh true false (Some a) h = refl
 eleventh true false None h = absurd (h refl refl)
 
-pub kept_of : (laws : Laws) (c : Controller) (from until : ℕ) (finished : Bool) (h : Header) (offered : List Request) (idle : ℕ) (log : List Step) (clock : ℕ) (command : Command) (id : Option ℕ) (next : Option Task) (queue : List Waiting) → IsReady c from until finished h offered idle log clock command id next queue → Kept h (places log) next c.until idle (banks_of queue) (length offered) (record { clock = clock; command = command })
+pub kept_of : (laws : Laws) (c : State) (from until : ℕ) (finished : Bool) (h : Header) (offered : List Request) (idle : ℕ) (log : List Step) (clock : ℕ) (command : Command) (id : Option ℕ) (next : Option Task) (queue : List Waiting) → IsReady c from until finished h offered idle log clock command id next queue → Kept h (places log) next c.until idle (banks_of queue) (length offered) (record { clock = clock; command = command })
 kept_of laws c from until finished h offered idle log clock command id next queue r =
     laws.deadlines.turn h (places log) c.task next from c.until idle (banks_of c.queue.items) (banks_of queue) (length offered) (record { clock = clock; command = command }) r.holds.accepted r.holds.deadlines r.turn
 
-pub right_of : (laws : Laws) (c : Controller) (from until : ℕ) (finished : Bool) (h : Header) (offered : List Request) (idle : ℕ) (log : List Step) (clock : ℕ) (command : Command) (id : Option ℕ) (next : Option Task) (queue : List Waiting) → IsReady c from until finished h offered idle log clock command id next queue → broken h clock command (places log) ≡ None
+pub right_of : (laws : Laws) (c : State) (from until : ℕ) (finished : Bool) (h : Header) (offered : List Request) (idle : ℕ) (log : List Step) (clock : ℕ) (command : Command) (id : Option ℕ) (next : Option Task) (queue : List Waiting) → IsReady c from until finished h offered idle log clock command id next queue → broken h clock command (places log) ≡ None
 right_of laws c from until finished h offered idle log clock command id next queue r =
     let k = kept_of laws c from until finished h offered idle log clock command id next queue r in
     let e : IsTrue (rule_11 h command (places log)) = eleventh (is_rfm_all command) (is_wanted h command (places log)) (alert h (places log)) k.raised in
     none_failing 1 (rules_at h clock command (places log)) (r.follows.rises, (r.follows.gaps, (r.follows.window, (r.fits.fourth, (r.fits.fifth, (k.sixth, (k.seventh, (k.eighth, (r.ninth, (r.tenth, (e, (r.twelfth, (k.thirteenth, (r.fourteenth, tt))))))))))))))
 
-pub ledger_of : (c : Controller) (from until : ℕ) (finished : Bool) (h : Header) (offered : List Request) (idle : ℕ) (log : List Step) (clock : ℕ) (command : Command) (id : Option ℕ) (next : Option Task) (queue : List Waiting) → IsReady c from until finished h offered idle log clock command id next queue → LedgerStandsFor c.ledger h (places log)
+pub ledger_of : (c : State) (from until : ℕ) (finished : Bool) (h : Header) (offered : List Request) (idle : ℕ) (log : List Step) (clock : ℕ) (command : Command) (id : Option ℕ) (next : Option Task) (queue : List Waiting) → IsReady c from until finished h offered idle log clock command id next queue → LedgerStandsFor c.ledger h (places log)
 ledger_of c from until finished h offered idle log clock command id next queue r =
     let s = r.holds.ledger in record {
       accepted = s.accepted;
@@ -55,7 +55,7 @@ ledger_of c from until finished h offered idle log clock command id next queue r
       later = up_to_more from c.ledger.from (places log) r.waited s.later;
     }
 
-pub suits_of : (laws : Laws) (c : Controller) (from until : ℕ) (finished : Bool) (h : Header) (offered : List Request) (idle : ℕ) (log : List Step) (clock : ℕ) (command : Command) (id : Option ℕ) (next : Option Task) (queue : List Waiting) → IsReady c from until finished h offered idle log clock command id next queue → Suits c.ledger h (places log) clock command
+pub suits_of : (laws : Laws) (c : State) (from until : ℕ) (finished : Bool) (h : Header) (offered : List Request) (idle : ℕ) (log : List Step) (clock : ℕ) (command : Command) (id : Option ℕ) (next : Option Task) (queue : List Waiting) → IsReady c from until finished h offered idle log clock command id next queue → Suits c.ledger h (places log) clock command
 suits_of laws c from until finished h offered idle log clock command id next queue r =
     let k = kept_of laws c from until finished h offered idle log clock command id next queue r in record {
       late = r.late;
@@ -63,13 +63,13 @@ suits_of laws c from until finished h offered idle log clock command id next que
       spares = r.spares;
     }
 
-pub may_of : (laws : Laws) (c : Controller) (from until : ℕ) (finished : Bool) (h : Header) (offered : List Request) (idle : ℕ) (log : List Step) (clock : ℕ) (command : Command) (id : Option ℕ) (next : Option Task) (queue : List Waiting) → IsReady c from until finished h offered idle log clock command id next queue → MayIssue c.ledger clock command
-may_of laws c from until finished h offered idle log clock command id next queue r = record {
-  header = h;
-  log = places log;
-  stands = ledger_of c from until finished h offered idle log clock command id next queue r;
-  suits = suits_of laws c from until finished h offered idle log clock command id next queue r;
-}
+pub may_of : (laws : Laws) (c : State) (from until : ℕ) (finished : Bool) (h : Header) (offered : List Request) (idle : ℕ) (log : List Step) (clock : ℕ) (command : Command) (id : Option ℕ) (next : Option Task) (queue : List Waiting) → IsReady c from until finished h offered idle log clock command id next queue → (g : Header) × (l : Log) × (LedgerStandsFor c.ledger g l) × Suits c.ledger g l clock command
+may_of laws c from until finished h offered idle log clock command id next queue r = (
+  h,
+  places log,
+  ledger_of c from until finished h offered idle log clock command id next queue r,
+  suits_of laws c from until finished h offered idle log clock command id next queue r,
+)
 
 seen_after : (all raises : Bool) (clock : ℕ) (o : Option ℕ) → IsSeen (cond all None o) (clock + 1) (alert_after all raises clock o)
 seen_after true raises clock o = tt
@@ -95,7 +95,7 @@ write_leaves b Nop e = cc
 sound_after : (h : Header) (place : Issued) (log : Log) → verdict h log ≡ None → broken h place.clock place.command log ≡ None → verdict h (place ∷ log) ≡ None
 sound_after h place log e f = rw (e, f) refl
 
-pub holds_after : (laws : Laws) (c : Controller) (from until : ℕ) (finished : Bool) (h : Header) (offered : List Request) (idle : ℕ) (log : List Step) (clock : ℕ) (command : Command) (id : Option ℕ) (next : Option Task) (queue : List Waiting) (ledger : Ledger) (raised : Option ℕ) (q : ArrayVec Waiting) → IsReady c from until finished h offered idle log clock command id next queue → LedgerStandsFor ledger h (record { clock = clock; command = command } ∷ places log) → ledger.from ≡ clock + 1 → raised ≡ alert_left command c.alert → q.items ≡ queue → Holds h (record c { ledger = ledger; alert = raised; queue = q; task = next }) offered idle (record { issued = record { clock = clock; command = command }; id = id } ∷ log)
+pub holds_after : (laws : Laws) (c : State) (from until : ℕ) (finished : Bool) (h : Header) (offered : List Request) (idle : ℕ) (log : List Step) (clock : ℕ) (command : Command) (id : Option ℕ) (next : Option Task) (queue : List Waiting) (ledger : Ledger) (raised : Option ℕ) (q : ArrayVec Waiting) → IsReady c from until finished h offered idle log clock command id next queue → LedgerStandsFor ledger h (record { clock = clock; command = command } ∷ places log) → ledger.from ≡ clock + 1 → raised ≡ alert_left command c.alert → q.items ≡ queue → Holds h (record c { ledger = ledger; alert = raised; queue = q; task = next }) offered idle (record { issued = record { clock = clock; command = command }; id = id } ∷ log)
 holds_after laws c from until finished h offered idle log clock command id next queue ledger raised q r stands at left items =
     let k = kept_of laws c from until finished h offered idle log clock command id next queue r in
     let s = r.holds in
@@ -120,7 +120,7 @@ holds_after laws c from until finished h offered idle log clock command id next 
       target = s.target;
     }
 
-pub issues_of : (laws : Laws) (c new : Controller) (from until : ℕ) (finished : Bool) (h : Header) (offered : List Request) (idle : ℕ) (log : List Step) (clock : ℕ) (command : Command) (id : Option ℕ) (next : Option Task) (queue : List Waiting) (q : ArrayVec Waiting) → IsReady c from until finished h offered idle log clock command id next queue → LedgerStandsFor new.ledger h (record { clock = clock; command = command } ∷ places log) → new.ledger.from ≡ clock + 1 → new.alert ≡ alert_left command c.alert → q.items ≡ queue → new ≡ record c { ledger = new.ledger; alert = new.alert; queue = q; task = next } → Issues clock command id from until finished h new offered idle log
+pub issues_of : (laws : Laws) (c new : State) (from until : ℕ) (finished : Bool) (h : Header) (offered : List Request) (idle : ℕ) (log : List Step) (clock : ℕ) (command : Command) (id : Option ℕ) (next : Option Task) (queue : List Waiting) (q : ArrayVec Waiting) → IsReady c from until finished h offered idle log clock command id next queue → LedgerStandsFor new.ledger h (record { clock = clock; command = command } ∷ places log) → new.ledger.from ≡ clock + 1 → new.alert ≡ alert_left command c.alert → q.items ≡ queue → new ≡ record c { ledger = new.ledger; alert = new.alert; queue = q; task = next } → Issues clock command id from until finished h new offered idle log
 unfolding StandsFor from_of
 issues_of laws c new from until finished h offered idle log clock command id next queue q r stands at left items same = record {
   right = right_of laws c from until finished h offered idle log clock command id next queue r;
@@ -129,7 +129,7 @@ issues_of laws c new from until finished h offered idle log clock command id nex
   prompt = r.prompt;
   busy = r.busy;
   now = at;
-  stands = subst (λ (x : Controller). Holds h x offered idle (record { issued = record { clock = clock; command = command }; id = id } ∷ log)) (sym same) (holds_after laws c from until finished h offered idle log clock command id next queue new.ledger new.alert q r stands at left items);
+  stands = subst (λ (x : State). Holds h x offered idle (record { issued = record { clock = clock; command = command }; id = id } ∷ log)) (sym same) (holds_after laws c from until finished h offered idle log clock command id next queue new.ledger new.alert q r stands at left items);
 }
 
 id_column : (k : Class) (w : Waiting) → k ≡ Column → id_for k w ≡ Some w.id
@@ -153,13 +153,13 @@ queue_other Activate ws at e = refl
 queue_other Precharge ws at e = refl
 
 -- what a candidate's class says of the request and the queue
-pub ready_column : (c : Controller) (from until : ℕ) (finished : Bool) (h : Header) (offered : List Request) (idle : ℕ) (log : List Step) (clock at : ℕ) (command : Command) (k : Class) (w : Waiting) (next : Option Task) → k ≡ Column → command ≡ command_for k w → IsReady c from until finished h offered idle log clock (command_for k w) (id_for k w) next (queue_after k c.queue.items at) → IsReady c from until finished h offered idle log clock command (Some w.id) next (remove c.queue.items at)
+pub ready_column : (c : State) (from until : ℕ) (finished : Bool) (h : Header) (offered : List Request) (idle : ℕ) (log : List Step) (clock at : ℕ) (command : Command) (k : Class) (w : Waiting) (next : Option Task) → k ≡ Column → command ≡ command_for k w → IsReady c from until finished h offered idle log clock (command_for k w) (id_for k w) next (queue_after k c.queue.items at) → IsReady c from until finished h offered idle log clock command (Some w.id) next (remove c.queue.items at)
 ready_column c from until finished h offered idle log clock at command k w next e is r =
     subst (λ x. IsReady c from until finished h offered idle log clock x (Some w.id) next (remove c.queue.items at)) (sym is)
     (subst (λ (o : Option ℕ). IsReady c from until finished h offered idle log clock (command_for k w) o next (remove c.queue.items at)) (id_column k w e)
     (subst (λ ws. IsReady c from until finished h offered idle log clock (command_for k w) (id_for k w) next ws) (queue_column k c.queue.items at e) r))
 
-pub ready_other : (c : Controller) (from until : ℕ) (finished : Bool) (h : Header) (offered : List Request) (idle : ℕ) (log : List Step) (clock at : ℕ) (command : Command) (k : Class) (w : Waiting) (next : Option Task) → (k ≡ Column → ⊥) → command ≡ command_for k w → IsReady c from until finished h offered idle log clock (command_for k w) (id_for k w) next (queue_after k c.queue.items at) → IsReady c from until finished h offered idle log clock command None next c.queue.items
+pub ready_other : (c : State) (from until : ℕ) (finished : Bool) (h : Header) (offered : List Request) (idle : ℕ) (log : List Step) (clock at : ℕ) (command : Command) (k : Class) (w : Waiting) (next : Option Task) → (k ≡ Column → ⊥) → command ≡ command_for k w → IsReady c from until finished h offered idle log clock (command_for k w) (id_for k w) next (queue_after k c.queue.items at) → IsReady c from until finished h offered idle log clock command None next c.queue.items
 ready_other c from until finished h offered idle log clock at command k w next e is r =
     subst (λ x. IsReady c from until finished h offered idle log clock x None next c.queue.items) (sym is)
     (subst (λ (o : Option ℕ). IsReady c from until finished h offered idle log clock (command_for k w) o next c.queue.items) (id_other k w e)

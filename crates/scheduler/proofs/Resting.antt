@@ -19,7 +19,7 @@ use Rattle.scheduler.specs.Controller.{Holds, IsCalm, AtRest, IsSeen, IsTasked, 
 use Rattle.scheduler.specs.Laws.{Laws}
 use Rattle.scheduler.specs.Steps.{IsReadySoon, IsResting, with_from}
 use Rattle.scheduler.specs.declared.choice.Candidate.{Candidate}
-use Rattle.scheduler.specs.declared.controller.Controller.{Controller}
+use Rattle.scheduler.specs.declared.state.State.{State}
 use Rattle.scheduler.proofs.Spaced.{up_to_more}
 use Rattle.scheduler.proofs.Tools.{fails_below, none_failing, joined}
 use Rattle.scheduler.proofs.Parts.{length-places, at_least}
@@ -34,7 +34,7 @@ below_end : (clock from : ℕ) (log : Log) → from ≤ clock → rule_1 from lo
 below_end clock from [] le e = refl
 below_end clock from (place ∷ log) le e = let a = ltb-true place.clock from e in lt-ltb place.clock clock (omega (arith, a, le))
 
-calm_of : (c : Controller) (h : Header) (offered : List Request) (idle : ℕ) (log : List Step) → IsResting c h offered idle log → IsCalm h (max c.ledger.from c.until) (places log)
+calm_of : (c : State) (h : Header) (offered : List Request) (idle : ℕ) (log : List Step) → IsResting c h offered idle log → IsCalm h (max c.ledger.from c.until) (places log)
 calm_of c h offered idle log r = record {
   no_alert = none_raised (alert h (places log)) r.free.candidate;
   no_scrub = r.free.no_scrub;
@@ -42,7 +42,7 @@ calm_of c h offered idle log r = record {
   no_management = r.free.no_management;
 }
 
-rest_of : (c : Controller) (h : Header) (offered : List Request) (idle : ℕ) (log : List Step) → IsResting c h offered idle log → AtRest h (max c.ledger.from c.until) offered log
+rest_of : (c : State) (h : Header) (offered : List Request) (idle : ℕ) (log : List Step) → IsResting c h offered idle log → AtRest h (max c.ledger.from c.until) offered log
 rest_of c h offered idle log r = record {
   none_waits = sym r.awake.holds.requested.waits ∙ r.none_waits;
   started = r.started;
@@ -55,10 +55,10 @@ seen_none None (Some x) from e f = cc
 seen_none (Some y) a from e f = sym e
 
 -- the controller at e0
-abbrev pub rested : Controller → Controller
+abbrev pub rested : State → State
 rested c = with_from (max c.ledger.from c.until) c
 
-pub holds_rested : (laws : Laws) (c : Controller) (h : Header) (offered : List Request) (idle : ℕ) (log : List Step) → IsResting c h offered idle log → c.ledger.from < 2 ^ 47 → Holds h (rested c) offered idle log
+pub holds_rested : (laws : Laws) (c : State) (h : Header) (offered : List Request) (idle : ℕ) (log : List Step) → IsResting c h offered idle log → c.ledger.from < 2 ^ 47 → Holds h (rested c) offered idle log
 holds_rested laws c h offered idle log r bound =
     let s = r.awake.holds in
     let l = s.ledger in
@@ -92,12 +92,12 @@ holds_rested laws c h offered idle log r bound =
       target = s.target;
     }
 
-pub rests_of : (laws : Laws) (c new : Controller) (h : Header) (offered : List Request) (idle : ℕ) (log : List Step) → IsResting c h offered idle log → c.ledger.from < 2 ^ 47 → new ≡ rested c → Rests c.ledger.from c.until h new offered idle log
+pub rests_of : (laws : Laws) (c new : State) (h : Header) (offered : List Request) (idle : ℕ) (log : List Step) → IsResting c h offered idle log → c.ledger.from < 2 ^ 47 → new ≡ rested c → Rests c.ledger.from c.until h new offered idle log
 unfolding StandsFor from_of
 rests_of laws c new h offered idle log r bound same = record {
   rest = rest_of c h offered idle log r;
-  now = ap (λ (x : Controller). x.ledger.from) same;
-  stands = subst (λ (x : Controller). Holds h x offered idle log) (sym same) (holds_rested laws c h offered idle log r bound);
+  now = ap (λ (x : State). x.ledger.from) same;
+  stands = subst (λ (x : State). Holds h x offered idle log) (sym same) (holds_rested laws c h offered idle log r bound);
 }
 
 -- ---- The end
@@ -110,7 +110,7 @@ is_none_of : (o : Option ℕ) → o ≡ None → is_none o ≡ true
 is_none_of None e = refl
 is_none_of (Some a) e = cc
 
-pub ends_right : (laws : Laws) (c : Controller) (h : Header) (offered : List Request) (idle : ℕ) (log : List Step) → IsResting c h offered idle log → all_closed (places log) ≡ true → broken_at_end h (max c.ledger.from c.until) (places log) ≡ None
+pub ends_right : (laws : Laws) (c : State) (h : Header) (offered : List Request) (idle : ℕ) (log : List Step) → IsResting c h offered idle log → all_closed (places log) ≡ true → broken_at_end h (max c.ledger.from c.until) (places log) ≡ None
 ends_right laws c h offered idle log r closed =
     let s = r.awake.holds in
     let e0 = max c.ledger.from c.until in
@@ -136,7 +136,7 @@ no_hit : (b : ℕ) (o : Option ℕ) (ws : List Waiting) → ws ≡ [] → oldest
 no_hit b o [] e = refl
 no_hit b o (w ∷ ws) e = cc
 
-pub last_ready : (laws : Laws) (c : Controller) (h : Header) (offered : List Request) (idle : ℕ) (log : List Step) → IsResting c h offered idle log → c.ledger.from < 2 ^ 47 → c.finished ≡ true → all_closed (places log) ≡ false → IsReadySoon (rested c) c.ledger.from c.until c.finished h offered idle log PreAb None
+pub last_ready : (laws : Laws) (c : State) (h : Header) (offered : List Request) (idle : ℕ) (log : List Step) → IsResting c h offered idle log → c.ledger.from < 2 ^ 47 → c.finished ≡ true → all_closed (places log) ≡ false → IsReadySoon (rested c) c.ledger.from c.until c.finished h offered idle log PreAb None
 last_ready laws c h offered idle log r bound finished opened = record {
   ledger = (holds_rested laws c h offered idle log r bound).ledger;
   ready = λ clock soonest.

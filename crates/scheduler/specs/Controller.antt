@@ -1,6 +1,6 @@
 -- What a controller stands for: the requests that it was offered, the clocks of its idle lines, and the log of what it
 -- issued, each place with the number of the request that it serves.
-use Rattle.std.specs.Prelude.{◌≡◌, ℕ, ◌+◌, ◌<◌, ◌≤◌, ◌^◌, Bool, true, false, ◌&&◌, ◌||◌, Option, Some, None, List, [], ◌∷◌, length, map, max, IsTrue, ⊤}
+use Rattle.std.specs.Prelude.{◌≡◌, ℕ, ◌+◌, ◌<◌, ◌≤◌, ◌^◌, Bool, true, false, ◌&&◌, ◌||◌, Option, Some, None, List, [], ◌∷◌, length, map, max, is_some, IsTrue, ⊤}
 use Rattle.command_words.specs.Command.{bank_number}
 use Rattle.command_words.specs.declared.command.Command.{Command}
 use Rattle.command_words.specs.declared.command.Command.TheVariants.{RfmAb, RfmSb}
@@ -23,7 +23,7 @@ use Rattle.deadlines.specs.Turns.{IsEcsDue}
 use Rattle.deadlines.specs.declared.task.Task.{Task}
 use Rattle.deadlines.specs.declared.task.Task.TheVariants.{RfmAll, Ecs, RefAll, RefSame, RfmSame}
 use Rattle.scheduler.specs.Ledger.{StandsFor as LedgerStandsFor}
-use Rattle.scheduler.specs.declared.controller.Controller.{Controller}
+use Rattle.scheduler.specs.declared.state.State.{State}
 use Rattle.scheduler.specs.declared.turn.Turn.{Turn}
 use Rattle.scheduler.specs.declared.turn.Turn.TheVariants.{Issue, Idle, Done}
 
@@ -61,7 +61,7 @@ excused task finished queue b = is_covered task b || (finished && none_wait queu
 abbrev pub banks_of : List Waiting → List ℕ
 banks_of ws = map (λ w. bank_number w.place.bank) ws
 
-pub record Holds (h : Header) (c : Controller) (offered : List Request) (idle : ℕ) (log : List Step) : Type 0 where
+pub record Holds (h : Header) (c : State) (offered : List Request) (idle : ℕ) (log : List Step) : Type 0 where
   pub accepted : IsAccepted h
   pub header : c.header ≡ h
   pub writes : c.writes.items ≡ register_writes h.settings
@@ -80,25 +80,37 @@ pub record Holds (h : Header) (c : Controller) (offered : List Request) (idle : 
   pub target : c.until < 2 ^ 47
 
 -- the controller stands for them; how is its own affair
-unfoldable pub StandsFor : Header → Controller → List Request → ℕ → List Step → Type 0
+unfoldable pub StandsFor : Header → State → List Request → ℕ → List Step → Type 0
 StandsFor h c offered idle log = Holds h c offered idle log
+
+-- it stands for some list
+abbrev pub StandsForSome : State → Type 0
+StandsForSome c = ∥ ((h : Header) × (offered : List Request) × (idle : ℕ) × (log : List Step) × StandsFor h c offered idle log) ∥₁
+
+-- it stands for some list after which an alert is raised, or not, as it is told
+abbrev pub IsTold : State → Bool → Type 0
+IsTold c raised = ∥ ((h : Header) × (offered : List Request) × (idle : ℕ) × (log : List Step) × (StandsFor h c offered idle log) × (raised ≡ is_some (alert h (places log)))) ∥₁
 
 -- ---- What it shows
 
+-- the header that it holds
+unfoldable pub header_of : State → Header
+header_of c = c.header
+
 -- the clock before which no more commands come
-unfoldable pub from_of : Controller → ℕ
+unfoldable pub from_of : State → ℕ
 from_of c = c.ledger.from
 
 -- the idle target
-unfoldable pub until_of : Controller → ℕ
+unfoldable pub until_of : State → ℕ
 until_of c = c.until
 
 -- the task that is set
-unfoldable pub task_of : Controller → Option Task
+unfoldable pub task_of : State → Option Task
 task_of c = c.task
 
 -- no more requests come
-unfoldable pub finished_of : Controller → Bool
+unfoldable pub finished_of : State → Bool
 finished_of c = c.finished
 
 abbrev pub number_of : Option RequestId → Option ℕ
@@ -121,7 +133,7 @@ pub record AtRest (h : Header) (clock : ℕ) (offered : List Request) (log : Lis
   pub calm : IsCalm h clock (places log)
 
 -- the command that a turn issued
-pub record Issues (clock : ℕ) (command : Command) (id : Option ℕ) (from until : ℕ) (finished : Bool) (h : Header) (new : Controller) (offered : List Request) (idle : ℕ) (log : List Step) : Type 0 where
+pub record Issues (clock : ℕ) (command : Command) (id : Option ℕ) (from until : ℕ) (finished : Bool) (h : Header) (new : State) (offered : List Request) (idle : ℕ) (log : List Step) : Type 0 where
   -- all fourteen rules hold at its place
   pub right : broken h clock command (places log) ≡ None
   -- it is what the waiting requests, or what is due, ask for
@@ -136,13 +148,13 @@ pub record Issues (clock : ℕ) (command : Command) (id : Option ℕ) (from unti
   pub stands : StandsFor h new offered idle (record { issued = record { clock = clock; command = command }; id = id } ∷ log)
 
 -- a turn that issued nothing
-pub record Rests (from until : ℕ) (h : Header) (new : Controller) (offered : List Request) (idle : ℕ) (log : List Step) : Type 0 where
+pub record Rests (from until : ℕ) (h : Header) (new : State) (offered : List Request) (idle : ℕ) (log : List Step) : Type 0 where
   pub rest : AtRest h (max from until) offered log
   pub now : from_of new ≡ max from until
   pub stands : StandsFor h new offered idle log
 
 -- what a turn leaves that began with this least clock, this idle target, and this announcement of the end
-abbrev pub After : Turn → ℕ → ℕ → Bool → Header → Controller → List Request → ℕ → List Step → Type 0
+abbrev pub After : Turn → ℕ → ℕ → Bool → Header → State → List Request → ℕ → List Step → Type 0
 After (Issue clock command id) from until finished h new offered idle log = Issues clock command (number_of id) from until finished h new offered idle log
 After Idle from until finished h new offered idle log = Rests from until h new offered idle log × (finished ≡ false)
 After Done from until finished h new offered idle log = Rests from until h new offered idle log × (finished ≡ true) × (broken_at_end h (max from until) (places log) ≡ None)

@@ -31,8 +31,5 @@ pub record Suits (ledger : Ledger) (h : Header) (log : Log) (clock : ℕ) (comma
   pub spares : SparesOwed command log
 
 -- that of some log
-pub record MayIssue (ledger : Ledger) (clock : ℕ) (command : Command) : Type 0 where
-  pub header : Header
-  pub log : Log
-  pub stands : StandsFor ledger header log
-  pub suits : Suits ledger header log clock command
+abbrev pub MayIssue : Ledger → ℕ → Command → Type 0
+MayIssue ledger clock command = ∥ ((h : Header) × (log : Log) × (StandsFor ledger h log) × Suits ledger h log clock command) ∥₁

@@ -27,23 +27,23 @@ use Rattle.scheduler.specs.Ledger.{StandsFor as LedgerStandsFor}
 use Rattle.scheduler.specs.declared.choice.Candidate.{Candidate}
 use Rattle.scheduler.specs.declared.choice.Class.{Class}
 use Rattle.scheduler.specs.declared.choice.Class.TheVariants.{Column, Activate, Precharge}
-use Rattle.scheduler.specs.declared.controller.Controller.{Controller}
+use Rattle.scheduler.specs.declared.state.State.{State}
 use Rattle.scheduler.specs.declared.task.Errand.{Errand}
 
 -- the controller stands for the log, and has seen the alert
-pub record IsAwake (c : Controller) (h : Header) (offered : List Request) (idle : ℕ) (log : List Step) : Type 0 where
+pub record IsAwake (c : State) (h : Header) (offered : List Request) (idle : ℕ) (log : List Step) : Type 0 where
   pub holds : Holds h c offered idle log
   pub seen : c.alert ≡ alert h (places log)
 
 -- the controller with this least clock of the next command
-abbrev pub with_from : ℕ → Controller → Controller
+abbrev pub with_from : ℕ → State → State
 with_from from c = record c { ledger = record c.ledger { from = from } }
 
 -- ---- A command that is to be issued
 
 -- All that is known of a command before it is issued, at this clock and for this request, by a turn that began with this
 -- least clock, this idle target and this announcement of the end. It leaves this task and this queue.
-pub record IsReady (c : Controller) (from until : ℕ) (finished : Bool) (h : Header) (offered : List Request) (idle : ℕ) (log : List Step) (clock : ℕ) (command : Command) (id : Option ℕ) (next : Option Task) (queue : List Waiting) : Type 0 where
+pub record IsReady (c : State) (from until : ℕ) (finished : Bool) (h : Header) (offered : List Request) (idle : ℕ) (log : List Step) (clock : ℕ) (command : Command) (id : Option ℕ) (next : Option Task) (queue : List Waiting) : Type 0 where
   pub holds : Holds h (with_from from c) offered idle log
   pub seen : c.alert ≡ alert h (places log)
   pub waited : from ≤ c.ledger.from
@@ -67,7 +67,7 @@ pub record IsReady (c : Controller) (from until : ℕ) (finished : Bool) (h : He
   pub busy : AtRest h (max from until) offered log → (finished ≡ true) × (all_closed (places log) ≡ false)
 
 -- that of a command that serves no request, at its e
-pub record IsReadySoon (c : Controller) (from until : ℕ) (finished : Bool) (h : Header) (offered : List Request) (idle : ℕ) (log : List Step) (command : Command) (next : Option Task) : Type 0 where
+pub record IsReadySoon (c : State) (from until : ℕ) (finished : Bool) (h : Header) (offered : List Request) (idle : ℕ) (log : List Step) (command : Command) (next : Option Task) : Type 0 where
   pub ledger : LedgerStandsFor c.ledger h (places log)
   pub ready : (clock : ℕ) → IsSoonest h (places log) c.ledger.from command clock → IsReady c from until finished h offered idle log clock command None next c.queue.items
 
@@ -83,7 +83,7 @@ queue_after Activate ws at = ws
 queue_after Precharge ws at = ws
 
 -- that of a candidate
-pub record IsReadyFor (c : Controller) (from until : ℕ) (finished : Bool) (h : Header) (offered : List Request) (idle : ℕ) (log : List Step) (candidate : Candidate) (next : Option Task) : Type 0 where
+pub record IsReadyFor (c : State) (from until : ℕ) (finished : Bool) (h : Header) (offered : List Request) (idle : ℕ) (log : List Step) (candidate : Candidate) (next : Option Task) : Type 0 where
   pub inside : candidate.at < length c.queue.items
   pub soon : candidate.clock + 1 ≤ max from until + 2 ^ 15
   pub ready : (w : Waiting) → slice_get c.queue.items candidate.at ≡ Some w
@@ -100,7 +100,7 @@ abbrev pub all_asked : List Bool
 all_asked = replicate 32 true
 
 -- the choice is the best candidate of all banks, and there is none where no request waits
-abbrev pub IsChoice : Controller → Header → Log → Option Candidate → Type 0
+abbrev pub IsChoice : State → Header → Log → Option Candidate → Type 0
 IsChoice c h log None = c.queue.items ≡ []
 IsChoice c h log (Some candidate) = IsBest h c.queue.items log c.ledger.from all_asked candidate
 
@@ -110,7 +110,7 @@ soonest_in None from until = max from until
 soonest_in (Some candidate) from until = candidate.clock
 
 -- no task is set and none is due at e0. While an alert is raised there is a candidate, within the alert's window.
-pub record IsFree (c : Controller) (h : Header) (log : Log) (choice : Option Candidate) (soonest : ℕ) : Type 0 where
+pub record IsFree (c : State) (h : Header) (log : Log) (choice : Option Candidate) (soonest : ℕ) : Type 0 where
   pub untasked : c.task ≡ None
   pub no_scrub : IsEcsDue h log → ⊥
   pub no_refresh : IsNothingDue h soonest log
@@ -119,7 +119,7 @@ pub record IsFree (c : Controller) (h : Header) (log : Log) (choice : Option Can
   pub window : (raised : ℕ) → alert h log ≡ Some raised → soonest ≤ raised + h.timing.nabo
 
 -- what is so while the alert that was raised at this clock is not answered yet
-pub record Waits (c : Controller) (h : Header) (log : Log) (choice : Option Candidate) (soonest raised : ℕ) : Type 0 where
+pub record Waits (c : State) (h : Header) (log : Log) (choice : Option Candidate) (soonest raised : ℕ) : Type 0 where
   pub untasked : c.task ≡ None
   pub candidate : IsSome choice
   pub window : soonest ≤ raised + h.timing.nabo
@@ -128,7 +128,7 @@ pub record Waits (c : Controller) (h : Header) (log : Log) (choice : Option Cand
   pub no_management : is_wanted h RfmAb log ≡ false
 
 -- a reason to answer the alert that was raised at this clock
-pub data Urges (c : Controller) (h : Header) (log : Log) (choice : Option Candidate) (soonest raised : ℕ) : Type 0 where
+pub data Urges (c : State) (h : Header) (log : Log) (choice : Option Candidate) (soonest raised : ℕ) : Type 0 where
   UrgesTask : IsSome c.task → Urges c h log choice soonest raised
   UrgesAlone : choice ≡ None → Urges c h log choice soonest raised
   UrgesWindow : raised + h.timing.nabo < soonest → Urges c h log choice soonest raised
@@ -137,7 +137,7 @@ pub data Urges (c : Controller) (h : Header) (log : Log) (choice : Option Candid
   UrgesRfm : IsTrue (is_wanted h RfmAb log) → Urges c h log choice soonest raised
 
 -- no alert has to be answered
-abbrev pub IsPatient : Controller → Header → Log → Option Candidate → ℕ → Type 0
+abbrev pub IsPatient : State → Header → Log → Option Candidate → ℕ → Type 0
 IsPatient c h log choice soonest = (raised : ℕ) → alert h log ≡ Some raised → Waits c h log choice soonest raised
 
 -- the task of a refresh that is due
@@ -146,7 +146,7 @@ refresh_task All = RefAll
 refresh_task (Same address) = RefSame address
 
 -- a task is served from this clock on
-pub record IsErrand (c : Controller) (h : Header) (log : Log) (soonest : ℕ) (errand : Errand) : Type 0 where
+pub record IsErrand (c : State) (h : Header) (log : Log) (soonest : ℕ) (errand : Errand) : Type 0 where
   pub decides : Decides h log c.task c.ledger.from c.until errand.task errand.start
   pub late : c.ledger.from ≤ errand.start
   pub early : errand.start ≤ soonest
@@ -154,7 +154,7 @@ pub record IsErrand (c : Controller) (h : Header) (log : Log) (soonest : ℕ) (e
   pub cause : IsCalm h soonest log → ⊥
 
 -- where a task is served
-pub record IsServing (c : Controller) (h : Header) (offered : List Request) (idle : ℕ) (log : List Step) (errand : Errand) : Type 0 where
+pub record IsServing (c : State) (h : Header) (offered : List Request) (idle : ℕ) (log : List Step) (errand : Errand) : Type 0 where
   pub awake : IsAwake c h offered idle log
   pub started : 8 ≤ length log
   pub choice : Option Candidate
@@ -162,7 +162,7 @@ pub record IsServing (c : Controller) (h : Header) (offered : List Request) (idl
   pub errand_is : IsErrand c h (places log) (soonest_in choice c.ledger.from c.until) errand
 
 -- where nothing waits and nothing is due
-pub record IsResting (c : Controller) (h : Header) (offered : List Request) (idle : ℕ) (log : List Step) : Type 0 where
+pub record IsResting (c : State) (h : Header) (offered : List Request) (idle : ℕ) (log : List Step) : Type 0 where
   pub awake : IsAwake c h offered idle log
   pub started : 8 ≤ length log
   pub none_waits : c.queue.items ≡ []

@@ -61,7 +61,7 @@ pub(crate) fn command_for(class: Class, waiting: &Waiting) -> Command
 fn wish_of(number: usize, board: &Board, queue: &[Waiting], ledger: &Ledger) -> Option<Wish>
     requires low { number < 32 }
     requires few { length queue.now ≤ 32 }
-    requires board { (h : AnyHeader) × (log : Log) × (LedgerStandsFor ledger.now h log) × IsBoardOf board.now queue.now log }
+    requires board { ∥ ((h : AnyHeader) × (log : Log) × (LedgerStandsFor ledger.now h log) × IsBoardOf board.now queue.now log) ∥₁ }
     ensures none { IfNone result (first_at (in_bank number) queue.now ≡ None) }
     ensures inside { IfSome result (λ wish. wish.at < length queue.now) }
     ensures some { IfSome result (λ wish. (h : AnyHeader) (log : Log) → LedgerStandsFor ledger.now h log → IsBoardOf board.now queue.now log → Wants wish.class queue.now number log wish.at) }
@@ -93,7 +93,7 @@ fn candidate_of(
 ) -> Option<Candidate>
     requires low { number < 32 }
     requires few { length queue.now ≤ 32 }
-    requires ledger { (h : AnyHeader) × (log : Log) × (LedgerStandsFor ledger.now h log) × IsBoardOf board.now queue.now log }
+    requires ledger { ∥ ((h : AnyHeader) × (log : Log) × (LedgerStandsFor ledger.now h log) × IsBoardOf board.now queue.now log) ∥₁ }
     ensures none { IfNone result (is_asked asked.now number ≡ true → first_at (in_bank number) queue.now ≡ None) }
     ensures some { IfSome result (λ candidate. (h : AnyHeader) (log : Log) → LedgerStandsFor ledger.now h log → IsBoardOf board.now queue.now log
         → IsCandidate h queue.now log ledger.now.from asked.now number candidate) }
@@ -125,7 +125,7 @@ pub(crate) fn waiting_at(queue: &[Waiting], at: usize) -> Waiting
 /// PREpb, and then the oldest request. `None` comes where no request of such a bank waits.
 pub(crate) fn choose(queue: &[Waiting], ledger: &Ledger, asked: &[bool; 32]) -> Option<Candidate>
     requires few { length queue.now ≤ 32 }
-    requires ledger { (h : AnyHeader) × (log : Log) × LedgerStandsFor ledger.now h log }
+    requires ledger { ∥ ((h : AnyHeader) × (log : Log) × LedgerStandsFor ledger.now h log) ∥₁ }
     ensures none { IfNone result ((b : ℕ) → b < 32 → is_asked asked.now b ≡ true → first_at (in_bank b) queue.now ≡ None) }
     ensures some { IfSome result (λ candidate. (h : AnyHeader) (log : Log) → LedgerStandsFor ledger.now h log
         → IsBest h queue.now log ledger.now.from asked.now candidate) }

@@ -1,6 +1,7 @@
 //! Which task a turn serves.
 ghost use Rattle.std.specs.Prelude.{◌≡◌, ℕ, ◌+◌, ◌<◌, ◌≤◌, ◌^◌, List, Option, Some, None, Bool, true, false, max, IfSome, IfNone, IsSome};
 ghost use Rattle.speed_bin.specs.Alert.{alert as alert_of};
+ghost use Rattle.speed_bin.specs.Timing.{IsTiming};
 ghost use Rattle.speed_bin.specs.declared.header.Header.{Header as AnyHeader};
 ghost use Rattle.requests.specs.Queue.{Step, places};
 ghost use Rattle.requests.specs.declared.request.Request.{Request as AnyRequest};
@@ -9,17 +10,17 @@ ghost use Rattle.scheduler.specs.Steps.{IsAwake, IsFree, IsErrand, IsPatient, Ur
 
 use crate::Clock;
 use crate::choice::Candidate;
-use crate::controller::Controller;
+use crate::state::State;
 use crate::task::Errand;
 use deadlines::Task;
 use refresh_plan::Due;
 
-impl Controller {
+impl State {
     /// Step 4, back-off. Under a raised alert any one of six reasons is enough for RFM of all banks to become the task: a task
     /// is set already; there is no candidate; e0 is above a + nABO; an ECS is due; a refresh is due at e0; an RFM is wanted.
     fn must_back_off(&self, choice: Option<Candidate>, soonest: Clock) -> bool
         requires small { soonest < 2 ^ 48 }
-        requires awake { (h : AnyHeader) × (offered : List AnyRequest) × (idle : ℕ) × (log : List Step) × IsAwake self.now h offered idle log }
+        requires timing { IsTiming self.now.header.timing }
         ensures yes { (h : AnyHeader) (offered : List AnyRequest) (idle : ℕ) (log : List Step) → IsAwake self.now h offered idle log → result ≡ true → IsSome (alert_of h (places log)) }
         ensures urged { (h : AnyHeader) (offered : List AnyRequest) (idle : ℕ) (log : List Step) (raised : ℕ) → IsAwake self.now h offered idle log → result ≡ true → alert_of h (places log) ≡ Some raised → Urges self.now h (places log) choice soonest raised }
         ensures no { (h : AnyHeader) (offered : List AnyRequest) (idle : ℕ) (log : List Step) → IsAwake self.now h offered idle log → result ≡ false → IsPatient self.now h (places log) choice soonest }
@@ -50,7 +51,7 @@ impl Controller {
     /// RFM is wanted, RFM of a bank address, the least one with a bank at RAAIMT.
     pub(crate) fn errand_at(&self, choice: Option<Candidate>, soonest: Clock) -> Option<Errand>
         requires small { soonest < 2 ^ 48 }
-        requires awake { (h : AnyHeader) × (offered : List AnyRequest) × (idle : ℕ) × (log : List Step) × IsAwake self.now h offered idle log }
+        requires timing { IsTiming self.now.header.timing }
         ensures none { IfNone result ((h : AnyHeader) (offered : List AnyRequest) (idle : ℕ) (log : List Step) → IsAwake self.now h offered idle log → IsFree self.now h (places log) choice soonest) }
         ensures some { IfSome result (λ errand. (h : AnyHeader) (offered : List AnyRequest) (idle : ℕ) (log : List Step) → IsAwake self.now h offered idle log
             → LooksTo h (places log) self.now.ledger.from self.now.until soonest → self.now.ledger.from ≤ soonest

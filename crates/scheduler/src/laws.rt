@@ -19,8 +19,8 @@ ghost use Rattle.requests.specs.Queue.{Step, places, waiting, oldest, span, AreI
 ghost use Rattle.requests.specs.declared.waiting.Waiting.{Waiting};
 ghost use Rattle.requests.specs.Window.{window as window_of};
 ghost use Rattle.requests.specs.declared.request.Request.{Request as AnyRequest};
-ghost use Rattle.scheduler.specs.Controller.{StandsFor, from_of, until_of};
-ghost use Rattle.scheduler.specs.declared.controller.Controller.{Controller as AnyController};
+ghost use Rattle.scheduler.specs.Controller.{StandsFor, header_of, from_of, until_of};
+ghost use Rattle.scheduler.specs.declared.state.State.{State as AnyController};
 
 /// No rule fails at any place of the list, the newest one among them, none of its commands is a NOP, and no ACT opens the row that its bank's last ACT
 /// opened, unless a REF, an RFM or ECS that covers the bank stands between.
@@ -36,6 +36,13 @@ pub fn sound()
         → IsAccepted h }
     ensures no_nop { (h : AnyHeader) (c : AnyController) (offered : List AnyRequest) (idle : ℕ) (log : List Step) → StandsFor h c offered idle log
         → commands is_nop (places log) ≡ 0 }
+{}
+
+/// The header under which it stands is the one that it holds.
+#[tactic(auto, unfolding(crate::specs::Controller::StandsFor, crate::specs::Controller::header_of))]
+pub fn held()
+    ensures header { (h : AnyHeader) (c : AnyController) (offered : List AnyRequest) (idle : ℕ) (log : List Step) → StandsFor h c offered idle log
+        → header_of c ≡ h }
 {}
 
 /// The requests of one line are served in the order in which they were offered, each once, by a column of its kind and line,

@@ -8,6 +8,7 @@ mod controller;
 mod decision;
 pub mod laws;
 mod ledger;
+mod state;
 mod steps;
 mod task;
 #[cfg(test)]

@@ -2,6 +2,7 @@
 ghost use Rattle.std.specs.Prelude.{◌≡◌, ℕ, ◌+◌, ◌<◌, ◌≤◌, ◌^◌, List, [], ◌∷◌, length, Option, Some, None, Bool, true, false, max, is_some, IfSome, IfNone, IsTrue, ◌↔◌, slice_get};
 ghost use Rattle.speed_bin.specs.Alert.{alert as alert_of};
 ghost use Rattle.command_words.specs.Kinds.{is_rfm_all};
+ghost use Rattle.speed_bin.specs.Header.{IsAccepted};
 ghost use Rattle.speed_bin.specs.Log.{Log};
 ghost use Rattle.speed_bin.specs.declared.header.Header.{Header as AnyHeader};
 ghost use Rattle.command_words.specs.declared.command.Command.TheVariants.{Mrw as AnyMrw, PreAb as AnyPreAb};
@@ -9,7 +10,7 @@ ghost use Rattle.command_words.specs.declared.command.Mrw.{Mrw as Write};
 ghost use Rattle.requests.specs.Queue.{Step, places, waiting};
 ghost use Rattle.requests.specs.declared.request.Request.{Request as AnyRequest};
 ghost use Rattle.scheduler.specs.declared.choice.Class.TheVariants.{Column};
-ghost use Rattle.scheduler.specs.Controller.{Holds, StandsFor, After, AtRest, from_of, until_of, finished_of, task_of};
+ghost use Rattle.scheduler.specs.Controller.{Holds, StandsFor, IsTold, After, AtRest, from_of, until_of, finished_of, task_of};
 ghost use Rattle.scheduler.specs.Backoff.{AnswersAlert, IsPressed, issues_rfm_all};
 ghost use Rattle.scheduler.specs.Ledger.{StandsFor as LedgerStandsFor, MayIssue, Suits};
 ghost use Rattle.scheduler.specs.Steps.{IsAwake, IsReady, IsReadySoon, IsReadyFor, IsErrand, IsServing, IsResting, alert_left};
@@ -17,8 +18,8 @@ ghost use Rattle.scheduler.specs.Laws.{Laws, DeadlineLaws, RequestLaws};
 
 use crate::Clock;
 use crate::choice::{Candidate, Class, choose, command_for, waiting_at};
-use crate::controller::Controller;
 use crate::decision::soonest_of;
+use crate::state::State;
 use crate::task::{Errand, command_of, owed_for, precharge_of};
 use crate::turn::Turn;
 use backoff::Alert;
@@ -27,20 +28,19 @@ use deadlines::Task;
 use requests::RequestId;
 
 #[tactic(auto, unfolding(crate::specs::Controller::StandsFor, crate::specs::Controller::from_of, crate::specs::Controller::until_of, crate::specs::Controller::finished_of, crate::specs::Controller::task_of))]
-impl Controller {
-    /// One turn. `alert` says whether the device's alert is raised; `now` is below 2^47.
-    pub fn next(&mut self, alert: bool) -> Turn
+impl State {
+    /// One turn.
+    pub(crate) fn next(&mut self, alert: bool) -> Turn
         requires bound { from_of self.old < 2 ^ 47 }
-        requires stands { (h : AnyHeader) × (offered : List AnyRequest) × (idle : ℕ) × (log : List Step) × (StandsFor h self.old offered idle log) × (alert ≡ is_some (alert_of h (places log))) }
+        requires accepted { IsAccepted self.old.header }
+        requires told { IsTold self.old alert }
         ensures after { (h : AnyHeader) (offered : List AnyRequest) (idle : ℕ) (log : List Step) → StandsFor h self.old offered idle log → alert ≡ is_some (alert_of h (places log))
             → After result (from_of self.old) (until_of self.old) (finished_of self.old) h self.new offered idle log }
-
-        // Under a raised alert RFM of all banks is served exactly where the policy has a reason to stop serving requests.
         ensures backs_off { (h : AnyHeader) (offered : List AnyRequest) (idle : ℕ) (log : List Step) (raised : ℕ) → StandsFor h self.old offered idle log → alert ≡ is_some (alert_of h (places log))
             → 8 ≤ length log → alert_of h (places log) ≡ Some raised
             → (AnswersAlert result (task_of self.new) ↔ IsPressed h (waiting h offered log) (places log) (from_of self.old) (task_of self.old) raised) }
-
         ensures bound { from_of self.new ≤ max (from_of self.old) (until_of self.old) + 2 ^ 15 }
+        ensures header { self.new.header ≡ self.old.header }
         ensures until { until_of self.new ≡ until_of self.old }
         ensures finished { finished_of self.new ≡ finished_of self.old }
     {
@@ -61,10 +61,10 @@ impl Controller {
     }
 }
 
-impl Controller {
+impl State {
     // An alert that was not seen before came with the last command.
     fn see(&mut self, alert: bool)
-        requires { (h : AnyHeader) × (offered : List AnyRequest) × (idle : ℕ) × (log : List Step) × (Holds h self.old offered idle log) × (alert ≡ is_some (alert_of h (places log))) }
+        requires { IsTold self.old alert }
         ensures awake { (h : AnyHeader) (offered : List AnyRequest) (idle : ℕ) (log : List Step) → Holds h self.old offered idle log → alert ≡ is_some (alert_of h (places log))
             → IsAwake self.new h offered idle log }
         ensures rest { self.new ≡ record self.old { alert = self.new.alert } }
@@ -78,10 +78,11 @@ impl Controller {
     fn write_register(&mut self) -> Turn
         requires bound { self.old.ledger.from < 2 ^ 47 }
         requires starting { self.old.ledger.written < 8 }
-        requires awake { (h : AnyHeader) × (offered : List AnyRequest) × (idle : ℕ) × (log : List Step) × IsAwake self.old h offered idle log }
+        requires awake { ∥ ((h : AnyHeader) × (offered : List AnyRequest) × (idle : ℕ) × (log : List Step) × IsAwake self.old h offered idle log) ∥₁ }
         ensures after { (h : AnyHeader) (offered : List AnyRequest) (idle : ℕ) (log : List Step) → IsAwake self.old h offered idle log
             → After result self.old.ledger.from self.old.until self.old.finished h self.new offered idle log }
         ensures bound { self.new.ledger.from ≤ max self.old.ledger.from self.old.until + 2 ^ 15 }
+        ensures header { self.new.header ≡ self.old.header }
         ensures until { self.new.until ≡ self.old.until }
         ensures finished { self.new.finished ≡ self.old.finished }
     {
@@ -96,11 +97,12 @@ impl Controller {
     /// that covers all banks, else PREsb of the task's address. Otherwise: the task's own command, and no task is set any more.
     fn serve_task(&mut self, errand: Errand) -> Turn
         requires bound { self.old.ledger.from < 2 ^ 47 }
-        requires serving { (h : AnyHeader) × (offered : List AnyRequest) × (idle : ℕ) × (log : List Step) × IsServing self.old h offered idle log errand }
+        requires serving { ∥ ((h : AnyHeader) × (offered : List AnyRequest) × (idle : ℕ) × (log : List Step) × IsServing self.old h offered idle log errand) ∥₁ }
         ensures after { (h : AnyHeader) (offered : List AnyRequest) (idle : ℕ) (log : List Step) → IsServing self.old h offered idle log errand
             → After result self.old.ledger.from self.old.until self.old.finished h self.new offered idle log }
         ensures backs_off { errand.task ≡ Task.RfmAll → AnswersAlert result self.new.task }
         ensures bound { self.new.ledger.from ≤ max self.old.ledger.from self.old.until + 2 ^ 15 }
+        ensures header { self.new.header ≡ self.old.header }
         ensures until { self.new.until ≡ self.old.until }
         ensures finished { self.new.finished ≡ self.old.finished }
     {
@@ -121,12 +123,13 @@ impl Controller {
     /// several share it, an RD or WR is taken before an ACT and an ACT before a PREpb, and among the same kind the one whose
     /// request is oldest (for a PREpb the oldest request of its bank).
     fn issue_candidate(&mut self, candidate: &Candidate, task: Option<Task>) -> Turn
-        requires ready { (from : ℕ) × (until : ℕ) × (finished : Bool) × (h : AnyHeader) × (offered : List AnyRequest) × (idle : ℕ) × (log : List Step) × IsReadyFor self.old from until finished h offered idle log candidate.now task }
+        requires ready { ∥ ((from : ℕ) × (until : ℕ) × (finished : Bool) × (h : AnyHeader) × (offered : List AnyRequest) × (idle : ℕ) × (log : List Step) × IsReadyFor self.old from until finished h offered idle log candidate.now task) ∥₁ }
         ensures after { (from until : ℕ) (finished : Bool) (h : AnyHeader) (offered : List AnyRequest) (idle : ℕ) (log : List Step) → IsReadyFor self.old from until finished h offered idle log candidate.now task
             → After result from until finished h self.new offered idle log }
         ensures from { self.new.ledger.from ≡ candidate.now.clock + 1 }
         ensures task { self.new.task ≡ task }
         ensures serves { issues_rfm_all result ≡ false }
+        ensures header { self.new.header ≡ self.old.header }
         ensures until { self.new.until ≡ self.old.until }
         ensures finished { self.new.finished ≡ self.old.finished }
     {
@@ -146,10 +149,11 @@ impl Controller {
     /// is Idle. After that it is a PREab at its e, as long as a bank is open, and at last Done.
     fn rest(&mut self) -> Turn
         requires bound { self.old.ledger.from < 2 ^ 47 }
-        requires resting { (h : AnyHeader) × (offered : List AnyRequest) × (idle : ℕ) × (log : List Step) × IsResting self.old h offered idle log }
+        requires resting { ∥ ((h : AnyHeader) × (offered : List AnyRequest) × (idle : ℕ) × (log : List Step) × IsResting self.old h offered idle log) ∥₁ }
         ensures after { (h : AnyHeader) (offered : List AnyRequest) (idle : ℕ) (log : List Step) → IsResting self.old h offered idle log
             → After result self.old.ledger.from self.old.until self.old.finished h self.new offered idle log }
         ensures bound { self.new.ledger.from ≤ max self.old.ledger.from self.old.until + 2 ^ 15 }
+        ensures header { self.new.header ≡ self.old.header }
         ensures until { self.new.until ≡ self.old.until }
         ensures finished { self.new.finished ≡ self.old.finished }
     {
@@ -167,13 +171,14 @@ impl Controller {
 
     // Issues a command that serves no request, at its e, and leaves this task.
     fn issue_soonest(&mut self, command: Command, task: Option<Task>) -> Turn
-        requires ready { (from : ℕ) × (until : ℕ) × (finished : Bool) × (h : AnyHeader) × (offered : List AnyRequest) × (idle : ℕ) × (log : List Step) × IsReadySoon self.old from until finished h offered idle log command task }
+        requires ready { ∥ ((from : ℕ) × (until : ℕ) × (finished : Bool) × (h : AnyHeader) × (offered : List AnyRequest) × (idle : ℕ) × (log : List Step) × IsReadySoon self.old from until finished h offered idle log command task) ∥₁ }
         ensures after { (from until : ℕ) (finished : Bool) (h : AnyHeader) (offered : List AnyRequest) (idle : ℕ) (log : List Step) → IsReadySoon self.old from until finished h offered idle log command task
             → After result from until finished h self.new offered idle log }
         ensures bound { (from until : ℕ) (finished : Bool) (h : AnyHeader) (offered : List AnyRequest) (idle : ℕ) (log : List Step) → IsReadySoon self.old from until finished h offered idle log command task
             → self.new.ledger.from ≤ max from until + 2 ^ 15 }
         ensures task { self.new.task ≡ task }
         ensures command { issues_rfm_all result ≡ is_rfm_all command }
+        ensures header { self.new.header ≡ self.old.header }
         ensures until { self.new.until ≡ self.old.until }
         ensures finished { self.new.finished ≡ self.old.finished }
     {

@@ -3,7 +3,7 @@ ghost use Rattle.speed_bin.specs.Header.{IsAccepted};
 ghost use Rattle.scheduler.specs.Controller.{finished_of};
 ghost use Rattle.scheduler.specs.Testing.{HasTaken};
 
-use crate::laws::{bounds, in_order, inside, passed, serves, sound, unraised, work};
+use crate::laws::{bounds, held, in_order, inside, passed, serves, sound, unraised, work};
 use crate::{Clock, Controller, Turn};
 use command_words::{Command, LineAddr, encode};
 use requests::{Kind, Request, RequestId};
@@ -37,6 +37,7 @@ fn take(
     ensures taken { HasTaken header.now controller.new (taken + 1) }
     ensures finished { finished_of controller.new ≡ finished_of controller.old }
 {
+    held();
     let line = LineAddr::new(line, header.geometry())?;
     controller.offer(Request { line, kind }).ok()
 }
@@ -182,6 +183,7 @@ fn run_text(alloc: Global, text: &[u8], lines: &[Line], wanted: &[Issued]) -> Op
 #[test]
 fn laws_return() {
     sound();
+    held();
     in_order();
     bounds();
     work();

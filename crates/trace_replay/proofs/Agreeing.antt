@@ -20,7 +20,7 @@ use Rattle.requests.specs.Queue.{in_bank, hits, oldest, Step as NumberedStep, pl
 use Rattle.requests.specs.declared.request.Request.{Request}
 use Rattle.requests.specs.declared.waiting.Waiting.{Waiting}
 use Rattle.scheduler.specs.Controller.{number_of, StandsFor as ControllerFor, After as ControllerAfter, from_of as controller_from}
-use Rattle.scheduler.specs.declared.controller.Controller.{Controller}
+use Rattle.scheduler.specs.declared.state.State.{State as Controller}
 use Rattle.scheduler.specs.declared.turn.Turn.{Turn}
 use Rattle.scheduler.specs.declared.turn.Turn.TheVariants.{Issue, Idle, Done}
 use Rattle.device_core.specs.Standing.{StandsFor as DeviceFor, MayFollow}

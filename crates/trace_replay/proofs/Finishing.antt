@@ -12,7 +12,7 @@ use Rattle.speed_bin.specs.Header.{shape_of}
 use Rattle.requests.specs.declared.request.Request.{Request as Asked}
 use Rattle.requests.specs.declared.waiting.Waiting.{Waiting}
 use Rattle.scheduler.specs.Controller.{StandsFor as ControllerFor, from_of as controller_from}
-use Rattle.scheduler.specs.declared.controller.Controller.{Controller}
+use Rattle.scheduler.specs.declared.state.State.{State as Controller}
 use Rattle.scheduler.specs.declared.turn.Turn.{Turn}
 use Rattle.scheduler.specs.declared.turn.Turn.TheVariants.{Issue, Idle, Done}
 use Rattle.reports.specs.Runs.{Run, log_of}

@@ -20,7 +20,7 @@ use Rattle.requests.specs.declared.request.Kind.{Kind}
 use Rattle.requests.specs.declared.request.Request.{Request as Asked}
 use Rattle.requests.specs.declared.request.RequestId.{RequestId}
 use Rattle.scheduler.specs.Controller.{number_of, StandsFor as ControllerFor, from_of as controller_from}
-use Rattle.scheduler.specs.declared.controller.Controller.{Controller}
+use Rattle.scheduler.specs.declared.state.State.{State as Controller}
 use Rattle.reports.specs.Requests.{requests}
 use Rattle.reports.specs.Runs.{Run, log_of}
 use Rattle.reports.specs.Offered.{offered, controller_steps}

@@ -25,7 +25,7 @@ use Rattle.reports.specs.Report.{report}
 use Rattle.reports.specs.Sound.{Sound}
 use Rattle.reports.specs.Underway.{Next as NextLine, Unknown as UnknownLine, IsUnderway}
 use Rattle.scheduler.specs.Controller.{StandsFor as ControllerFor, from_of as controller_from}
-use Rattle.scheduler.specs.declared.controller.Controller.{Controller}
+use Rattle.scheduler.specs.declared.state.State.{State as Controller}
 use Rattle.trace_replay.specs.Coupled.{Step, StandsFor, pending_of, controller_of, with_pending, from_of, finished_of, controller_steps as numbered_steps}
 use Rattle.trace_replay.proofs.Under.{Agrees}
 use Rattle.trace_replay.specs.declared.trace_lines.Tally.{Tally}

@@ -16,7 +16,7 @@ use Rattle.reports.specs.Offered.{offered, controller_steps}
 use Rattle.reports.specs.Sound.{Sound}
 use Rattle.reports.specs.Underway.{Ahead as Following, Unknown as UnknownLine, IsUnderway}
 use Rattle.scheduler.specs.Controller.{StandsFor as ControllerFor}
-use Rattle.scheduler.specs.declared.controller.Controller.{Controller}
+use Rattle.scheduler.specs.declared.state.State.{State as Controller}
 use Rattle.requests.specs.Queue.{Step as NumberedStep}
 use Rattle.trace_replay.specs.Coupled.{Step, StandsFor, pending_of, controller_of, with_pending, finished_of, controller_steps as numbered_steps}
 use Rattle.trace_replay.specs.declared.coupled.Coupled.{Coupled}

@@ -13,7 +13,7 @@ use Rattle.requests.specs.Queue.{Step as NumberedStep, waiting}
 use Rattle.requests.specs.declared.request.Request.{Request}
 use Rattle.requests.specs.declared.request.RequestId.{RequestId}
 use Rattle.scheduler.specs.Controller.{AtRest, number_of, StandsFor as ControllerFor, from_of as controller_from, until_of as controller_until, finished_of as controller_finished}
-use Rattle.scheduler.specs.declared.controller.Controller.{Controller}
+use Rattle.scheduler.specs.declared.state.State.{State as Controller}
 use Rattle.scheduler.specs.declared.turn.Turn.{Turn}
 use Rattle.scheduler.specs.declared.turn.Turn.TheVariants.{Issue, Idle, Done}
 use Rattle.device_core.specs.Standing.{StandsFor as DeviceFor}

@@ -11,7 +11,7 @@ use Rattle.requests.specs.Queue.{Step as NumberedStep, places}
 use Rattle.requests.specs.declared.request.Kind.TheVariants.{Read as Reads}
 use Rattle.requests.specs.declared.request.Request.{Request as Asked}
 use Rattle.scheduler.specs.Controller.{StandsFor as ControllerFor}
-use Rattle.scheduler.specs.declared.controller.Controller.{Controller}
+use Rattle.scheduler.specs.declared.state.State.{State as Controller}
 use Rattle.reports.specs.Accesses.{IsColumn}
 use Rattle.reports.specs.Delivered.{bytes_for, device_steps}
 use Rattle.reports.specs.Offered.{offered, ranked, controller_steps}

@@ -99,6 +99,7 @@ impl Coupled {
         ensures until { until_of self.new ≡ until_of self.old }
         ensures finished { finished_of self.new ≡ finished_of self.old }
     {
+        scheduler::laws::held();
         self.controller.offer(request)
     }
 

@@ -1,172 +1,27 @@
-use Rattle.std.proofs.Common.{◌≡◌, Some, None, Option, IfNone, IsSome, ap, refl, arith}
+use Rattle.std.proofs.Common.{◌≡◌, ◌↔◌, sym, subst}
+use Rattle.std.proofs.Math.Logic.{∥∥₁_map}
+use Rattle.speed_bin.specs.Header.{IsAccepted}
+use Rattle.speed_bin.specs.declared.header.Header.{Header}
 use Rattle.requests.specs.Queue.{places, waiting}
-use Rattle.scheduler.specs.Controller.{StandsFor, from_of, until_of, finished_of, task_of}
-use Rattle.scheduler.specs.declared.controller.Controller.{Controller}
-use Rattle.scheduler.specs.declared.choice.Candidate.{Candidate}
-use Rattle.scheduler.specs.declared.task.Errand.{Errand}
-use Rattle.scheduler.proofs.Parts.{length-places}
-use Rattle.scheduler.proofs.Offering.{offer_ready}
-use Rattle.scheduler.proofs.Starting.{started_of}
-use Rattle.scheduler.proofs.Turning.{choice_of, small_of, serving_of, resting_of, looks_as, before_as, best_of, free_as, after_seen}
-use Rattle.scheduler.proofs.Pressing.{pressed_of, not_pressed, waits_of, not_answered, answers_seen}
+use Rattle.scheduler.specs.Backoff.{AnswersAlert, IsPressed}
+use Rattle.scheduler.specs.Controller.{StandsFor, IsTold, from_of, task_of}
+use Rattle.scheduler.specs.declared.state.State.{State}
+use Rattle.scheduler.proofs.Turning.{stands_after}
 use Rattle.scheduler.proofs.controller.Controller.next.Goals as goal
 
-at_none : (o : Option Errand) (P : Type 0) → ((x : Errand) → o ≡ Some x → ⊥) → IfNone o P → P
-at_none None P f p = p
-at_none (Some x) P f p = absurd (f x refl)
+pub invariant_of-self : goal.invariant_of-self
+invariant_of-self c = (
+  subst (λ (h : Header). IsAccepted h) (sym c.next.ensures.header) c.self.invariant.0,
+  ∥∥₁_map c.requires.told
+      (λ m. stands_after c.next.result _ _ _ m.0 c.next.new.self m.1 m.2 m.3 (c.next.ensures.after m.0 m.1 m.2 m.3 (subst (λ (x : State). StandsFor m.0 x m.1 m.2 m.3) (sym c.self.view_is) m.4) m.5)),
+)
 
-pub errand_at-requires-clause-small : goal.errand_at-requires-clause-small
-unfolding StandsFor from_of until_of finished_of task_of
-errand_at-requires-clause-small c =
-    let r = c.requires.stands in
-    let self = c.see.new.self in
-    let a = c.see.ensures.awake r.0 r.1 r.2 r.3 r.4 r.5 in
-    let same = ap (λ (x : Controller). x.ledger.from) c.see.ensures.rest in
-    let i = choice_of c.turn_laws.ensures self r.0 r.1 r.2 r.3 c.as_slice.result.now c.choose-choice.result a.holds c.as_slice.ensures.value c.choose-choice.ensures.none c.choose-choice.ensures.some in
-    small_of c.turn_laws.ensures self r.0 r.1 r.2 r.3 c.choose-choice.result c.soonest_of-soonest.result a.holds (let b = c.requires.bound in omega (arith, b, same)) i c.soonest_of-soonest.ensures
+pub next-requires-clause-told : goal.next-requires-clause-told
+next-requires-clause-told c = subst (λ (x : State). IsTold x c.args.alert) (sym c.self.view_is) c.requires.told
 
-pub serve_task-requires-clause-serving : goal.serve_task-requires-clause-serving
-unfolding StandsFor from_of until_of finished_of task_of
-serve_task-requires-clause-serving c =
-    let r = c.requires.stands in
-    let self = c.see.new.self in
-    let a = c.see.ensures.awake r.0 r.1 r.2 r.3 r.4 r.5 in
-    let i = choice_of c.turn_laws.ensures self r.0 r.1 r.2 r.3 c.as_slice.result.now c.choose-choice.result a.holds c.as_slice.ensures.value c.choose-choice.ensures.none c.choose-choice.ensures.some in
-    let e = c.soonest_of-soonest.ensures in (
-      r.0,
-      r.1,
-      r.2,
-      r.3,
-      serving_of self r.0 r.1 r.2 r.3 c.choose-choice.result c.soonest_of-soonest.result c.in-Some.errand a (started_of self r.0 r.1 r.2 r.3 a.holds c.if-self-lt8.false) i e
-          (c.in-Some.ensures.some r.0 r.1 r.2 r.3 a (looks_as self r.0 r.3 c.choose-choice.result c.soonest_of-soonest.result i e) (before_as self r.0 r.3 c.choose-choice.result c.soonest_of-soonest.result i e)),
-    )
-
-pub returns-in-Some-clause-after : goal.returns-in-Some-clause-after
-unfolding StandsFor from_of until_of finished_of task_of
-returns-in-Some-clause-after c = λ h offered idle log s alert.
-    let self = c.see.new.self in
-    let a = c.see.ensures.awake h offered idle log s alert in
-    let i = choice_of c.turn_laws.ensures self h offered idle log c.as_slice.result.now c.choose-choice.result a.holds c.as_slice.ensures.value c.choose-choice.ensures.none c.choose-choice.ensures.some in
-    let e = c.soonest_of-soonest.ensures in
-    after_seen c.serve_task.result c.args.self.now self c.serve_task.new.self h offered idle log c.see.ensures.rest
-    (c.serve_task.ensures.after h offered idle log (serving_of self h offered idle log c.choose-choice.result c.soonest_of-soonest.result c.in-Some.errand a (started_of self h offered idle log a.holds c.if-self-lt8.false) i e
-    (c.in-Some.ensures.some h offered idle log a (looks_as self h log c.choose-choice.result c.soonest_of-soonest.result i e) (before_as self h log c.choose-choice.result c.soonest_of-soonest.result i e))))
-
-pub issue_candidate-requires : goal.issue_candidate-requires
-unfolding StandsFor from_of until_of finished_of task_of
-issue_candidate-requires c =
-    let r = c.requires.stands in
-    let self = c.see.new.self in
-    let a = c.see.ensures.awake r.0 r.1 r.2 r.3 r.4 r.5 in
-    let same = ap (λ (x : Controller). x.ledger.from) c.see.ensures.rest in
-    let i = choice_of c.turn_laws.ensures self r.0 r.1 r.2 r.3 c.as_slice.result.now c.choose-choice.result a.holds c.as_slice.ensures.value c.choose-choice.ensures.none c.choose-choice.ensures.some in
-    let e = c.soonest_of-soonest.ensures in
-    let free = at_none c.errand_at.result _ c.in_default.not-Some c.errand_at.ensures.none r.0 r.1 r.2 r.3 a in record {
-      ready = (
-        self.ledger.from,
-        self.until,
-        self.finished,
-        r.0,
-        r.1,
-        r.2,
-        r.3,
-        offer_ready c.turn_laws.ensures self r.0 r.1 r.2 r.3 c.in-Some-choice.candidate a (let b = c.requires.bound in omega (arith, b, same)) (started_of self r.0 r.1 r.2 r.3 a.holds c.if-self-lt8.false)
-            (free_as self r.0 (places r.3) c.choose-choice.result c.in-Some-choice.candidate c.soonest_of-soonest.result c.in-Some-choice.is e free)
-            (best_of self r.0 r.3 c.choose-choice.result c.in-Some-choice.candidate c.in-Some-choice.is i),
-      );
-    }
-
-pub rest-requires-clause-resting : goal.rest-requires-clause-resting
-unfolding StandsFor from_of until_of finished_of task_of
-rest-requires-clause-resting c =
-    let r = c.requires.stands in
-    let self = c.see.new.self in
-    let a = c.see.ensures.awake r.0 r.1 r.2 r.3 r.4 r.5 in
-    let i = choice_of c.turn_laws.ensures self r.0 r.1 r.2 r.3 c.as_slice.result.now c.choose-choice.result a.holds c.as_slice.ensures.value c.choose-choice.ensures.none c.choose-choice.ensures.some in
-    let free = at_none c.errand_at.result _ c.in_default.not-Some c.errand_at.ensures.none r.0 r.1 r.2 r.3 a in
-    (r.0, r.1, r.2, r.3, resting_of self r.0 r.1 r.2 r.3 c.choose-choice.result c.soonest_of-soonest.result a (started_of self r.0 r.1 r.2 r.3 a.holds c.if-self-lt8.false) c.in-None.is i c.soonest_of-soonest.ensures free)
-
-pub returns-in-Some-choice-clause-after : goal.returns-in-Some-choice-clause-after
-unfolding StandsFor from_of until_of finished_of task_of
-returns-in-Some-choice-clause-after c = λ h offered idle log s alert.
-    let self = c.see.new.self in
-    let a = c.see.ensures.awake h offered idle log s alert in
-    let same = ap (λ (x : Controller). x.ledger.from) c.see.ensures.rest in
-    let i = choice_of c.turn_laws.ensures self h offered idle log c.as_slice.result.now c.choose-choice.result a.holds c.as_slice.ensures.value c.choose-choice.ensures.none c.choose-choice.ensures.some in
-    let e = c.soonest_of-soonest.ensures in
-    let free = at_none c.errand_at.result _ c.in_default.not-Some c.errand_at.ensures.none h offered idle log a in
-    after_seen c.issue_candidate.result c.args.self.now self c.issue_candidate.new.self h offered idle log c.see.ensures.rest
-    (c.issue_candidate.ensures.after self.ledger.from self.until self.finished h offered idle log
-    (offer_ready c.turn_laws.ensures self h offered idle log c.in-Some-choice.candidate a (let b = c.requires.bound in omega (arith, b, same)) (started_of self h offered idle log a.holds c.if-self-lt8.false)
-    (free_as self h (places log) c.choose-choice.result c.in-Some-choice.candidate c.soonest_of-soonest.result c.in-Some-choice.is e free)
-    (best_of self h log c.choose-choice.result c.in-Some-choice.candidate c.in-Some-choice.is i)))
-
-pub returns-in-Some-choice-clause-bound : goal.returns-in-Some-choice-clause-bound
-unfolding StandsFor from_of until_of finished_of task_of
-returns-in-Some-choice-clause-bound c =
-    let r = c.requires.stands in
-    let self = c.see.new.self in
-    let a = c.see.ensures.awake r.0 r.1 r.2 r.3 r.4 r.5 in
-    let same = ap (λ (x : Controller). x.ledger.from) c.see.ensures.rest in
-    let target = ap (λ (x : Controller). x.until) c.see.ensures.rest in
-    let i = choice_of c.turn_laws.ensures self r.0 r.1 r.2 r.3 c.as_slice.result.now c.choose-choice.result a.holds c.as_slice.ensures.value c.choose-choice.ensures.none c.choose-choice.ensures.some in
-    let e = c.soonest_of-soonest.ensures in
-    let free = at_none c.errand_at.result _ c.in_default.not-Some c.errand_at.ensures.none r.0 r.1 r.2 r.3 a in
-    let k = offer_ready c.turn_laws.ensures self r.0 r.1 r.2 r.3 c.in-Some-choice.candidate a (let b = c.requires.bound in omega (arith, b, same)) (started_of self r.0 r.1 r.2 r.3 a.holds c.if-self-lt8.false)
-    (free_as self r.0 (places r.3) c.choose-choice.result c.in-Some-choice.candidate c.soonest_of-soonest.result c.in-Some-choice.is e free)
-    (best_of self r.0 r.3 c.choose-choice.result c.in-Some-choice.candidate c.in-Some-choice.is i) in
-    let soon = k.soon in let at = c.issue_candidate.ensures.from in omega (arith, soon, at, same, target)
-
-pub returns-in-None-clause-after : goal.returns-in-None-clause-after
-unfolding StandsFor from_of until_of finished_of task_of
-returns-in-None-clause-after c = λ h offered idle log s alert.
-    let self = c.see.new.self in
-    let a = c.see.ensures.awake h offered idle log s alert in
-    let i = choice_of c.turn_laws.ensures self h offered idle log c.as_slice.result.now c.choose-choice.result a.holds c.as_slice.ensures.value c.choose-choice.ensures.none c.choose-choice.ensures.some in
-    let free = at_none c.errand_at.result _ c.in_default.not-Some c.errand_at.ensures.none h offered idle log a in
-    after_seen c.rest.result c.args.self.now self c.rest.new.self h offered idle log c.see.ensures.rest
-    (c.rest.ensures.after h offered idle log (resting_of self h offered idle log c.choose-choice.result c.soonest_of-soonest.result a (started_of self h offered idle log a.holds c.if-self-lt8.false) c.in-None.is i c.soonest_of-soonest.ensures free))
-
--- ---- The alert
-
-pub returns-then-self-lt8-clause-backs_off : goal.returns-then-self-lt8-clause-backs_off
-unfolding StandsFor from_of until_of finished_of task_of
-returns-then-self-lt8-clause-backs_off c = λ h offered idle log raised s alert started e.
-    let a = c.see.ensures.awake h offered idle log s alert in
-    let w = a.holds.ledger.written in let n = length-places log in let few = c.if-self-lt8.true in
-    absurd (omega (arith, w, n, few, started))
-
-pub returns-in-Some-clause-backs_off : goal.returns-in-Some-clause-backs_off
-unfolding StandsFor from_of until_of finished_of task_of
-returns-in-Some-clause-backs_off c = λ h offered idle log raised s alert started e.
-    let self = c.see.new.self in
-    let a = c.see.ensures.awake h offered idle log s alert in
-    let i = choice_of c.turn_laws.ensures self h offered idle log c.as_slice.result.now c.choose-choice.result a.holds c.as_slice.ensures.value c.choose-choice.ensures.none c.choose-choice.ensures.some in
-    let k = c.in-Some.ensures.backs_off h offered idle log raised a e in
-    let pressed = pressed_of c.turn_laws.ensures self h offered idle log c.choose-choice.result c.soonest_of-soonest.result raised a i c.soonest_of-soonest.ensures k.1 in
-    let answered = c.serve_task.ensures.backs_off k.0 in
-    answers_seen c.serve_task.result c.serve_task.new.self.task c.args.self.now self h (waiting h offered log) (places log) raised c.see.ensures.rest (λ x. pressed, λ x. answered)
-
-pub returns-in-Some-choice-clause-backs_off : goal.returns-in-Some-choice-clause-backs_off
-unfolding StandsFor from_of until_of finished_of task_of
-returns-in-Some-choice-clause-backs_off c = λ h offered idle log raised s alert started e.
-    let self = c.see.new.self in
-    let a = c.see.ensures.awake h offered idle log s alert in
-    let i = choice_of c.turn_laws.ensures self h offered idle log c.as_slice.result.now c.choose-choice.result a.holds c.as_slice.ensures.value c.choose-choice.ensures.none c.choose-choice.ensures.some in
-    let free = at_none c.errand_at.result _ c.in_default.not-Some c.errand_at.ensures.none h offered idle log a in
-    let waits = waits_of self h (places log) c.choose-choice.result c.soonest_of-soonest.result raised e free in
-    answers_seen c.issue_candidate.result c.issue_candidate.new.self.task c.args.self.now self h (waiting h offered log) (places log) raised c.see.ensures.rest (
-      λ x. absurd (not_answered c.issue_candidate.result c.issue_candidate.new.self.task c.issue_candidate.ensures.serves c.issue_candidate.ensures.task x),
-      λ x. absurd (not_pressed self h offered idle log c.choose-choice.result c.soonest_of-soonest.result raised a i c.soonest_of-soonest.ensures waits x),
-    )
-
-none_chosen : (o : Option Candidate) → o ≡ None → IsSome o → ⊥
-none_chosen None e f = cc
-none_chosen (Some x) e f = cc
-
-pub returns-in-None-clause-backs_off : goal.returns-in-None-clause-backs_off
-unfolding StandsFor from_of until_of finished_of task_of
-returns-in-None-clause-backs_off c = λ h offered idle log raised s alert started e.
-    let a = c.see.ensures.awake h offered idle log s alert in
-    let free = at_none c.errand_at.result _ c.in_default.not-Some c.errand_at.ensures.none h offered idle log a in
-    absurd (none_chosen c.choose-choice.result c.in-None.is (free.candidate raised e))
+pub returns-clause-backs_off : goal.returns-clause-backs_off
+unfolding from_of task_of
+returns-clause-backs_off c = λ h offered idle log raised stands alert started e.
+    let s = subst (λ (x : State). StandsFor h x offered idle log) (sym c.self.view_is) stands in
+    subst (λ (x : State). AnswersAlert c.next.result c.next.new.self.task ↔ IsPressed h (waiting h offered log) (places log) x.ledger.from x.task raised) c.self.view_is
+    (c.next.ensures.backs_off h offered idle log raised s alert started e)

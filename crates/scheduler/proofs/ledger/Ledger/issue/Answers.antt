@@ -1,4 +1,6 @@
-use Rattle.std.proofs.Common.{◌≡◌, ◌∙◌, ◌&&◌, ◌+◌, ◌∷◌, ap, sym, subst, arith}
+use Rattle.std.proofs.Common.{◌≡◌, ◌≤◌, ◌∙◌, ◌&&◌, ◌+◌, ◌∷◌, ap, sym, subst, arith}
+use Rattle.std.proofs.Math.Bridge.{le_prop}
+use Rattle.std.proofs.Math.Logic.{∥∥₁_elim, ∥∥₁_map}
 use Rattle.command_words.specs.Command.{covers}
 use Rattle.command_words.specs.Kinds.{effect}
 use Rattle.speed_bin.specs.Log.{Log}
@@ -10,7 +12,13 @@ use Rattle.scheduler.proofs.Spaced.{up_to_more}
 use Rattle.scheduler.proofs.ledger.Ledger.issue.Goals as goal
 
 pub issue-requires-clause-may : goal.issue-requires-clause-may
-issue-requires-clause-may c = let m = c.requires.may in ∣ (m.header, m.log, m.stands.stands, m.suits.follows) ∣₁
+issue-requires-clause-may c = ∥∥₁_map c.requires.may (λ m. (m.0, m.1, m.2.stands, m.3.follows))
+
+pub overflow_add-self : goal.overflow_add-self
+overflow_add-self c =
+    let same : c.note.new.self.written ≡ c.args.self.now.written = ap (λ (x : Ledger). x.written) c.note.ensures.rest in
+    let few : c.args.self.now.written ≤ 8 = ∥∥₁_elim c.requires.may le_prop (λ m. let written = m.2.written in omega (arith, written)) in
+    omega (arith, few, same)
 
 pub returns-clause-stands : goal.returns-clause-stands
 returns-clause-stands c = λ h log s suits.

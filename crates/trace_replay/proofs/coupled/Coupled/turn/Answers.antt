@@ -2,11 +2,11 @@ use Rattle.trace_replay.specs.Coupled.{controller_steps, StandsFor, controller_o
 use Rattle.trace_replay.proofs.Agreeing.{after_turn, told, unpended}
 use Rattle.trace_replay.proofs.coupled.Coupled.turn.Goals as goal
 
-pub next-turn-requires-clause-stands : goal.next-turn-requires-clause-stands
+pub next-turn-requires-clause-told : goal.next-turn-requires-clause-told
 unfolding StandsFor pending_of
-next-turn-requires-clause-stands c =
+next-turn-requires-clause-told c =
     let s = c.requires.stands in
-    (s.0, s.1, s.2, controller_steps s.3, unpended c.args.self.now s.0 s.1 s.2 s.3 c.requires.pending s.4, told c.args.self.now s.0 s.1 s.2 s.3 s.4)
+    ∣ (s.0, s.1, s.2, controller_steps s.3, unpended c.args.self.now s.0 s.1 s.2 s.3 c.requires.pending s.4, told c.args.self.now s.0 s.1 s.2 s.3 s.4) ∣₁
 
 pub returns-clause-after : goal.returns-clause-after
 unfolding StandsFor controller_of pending_of

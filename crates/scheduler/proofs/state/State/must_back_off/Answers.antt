@@ -4,7 +4,7 @@ use Rattle.refresh_plan.specs.declared.due_refresh.Due.{Due}
 use Rattle.scheduler.proofs.Deciding.{no_task, some_choice, patient_of, raised_of}
 use Rattle.scheduler.specs.Steps.{UrgesTask, UrgesAlone, UrgesWindow, UrgesScrub, UrgesRefresh, UrgesRfm}
 use Rattle.scheduler.proofs.Pressing.{window_end, alone, wanted_some}
-use Rattle.scheduler.proofs.controller.Controller.must_back_off.Goals as goal
+use Rattle.scheduler.proofs.state.State.must_back_off.Goals as goal
 
 pub returns-then-is_some-clause-yes : goal.returns-then-is_some-clause-yes
 returns-then-is_some-clause-yes c = λ h offered idle log a t. raised_of c.args.self.now h offered idle log _ c.in-Some.last a (sym c.last_activate.ensures.value ∙ c.in-Some.is)

@@ -1,12 +1,18 @@
-use Rattle.std.proofs.Common.{◌≡◌, subst, slice_get, Some}
+use Rattle.std.proofs.Common.{◌≡◌, ◌∙◌, ap, length, subst, slice_get, Some}
+use Rattle.std.proofs.Math.Bridge.{le_prop}
+use Rattle.std.proofs.Math.Logic.{∥∥₁_elim, ∥∥₁_map}
+use Rattle.std.proofs.Math.Nat.{ℕ_set}
 use Rattle.scheduler.proofs.Starting.{write_ready}
-use Rattle.scheduler.proofs.controller.Controller.write_register.Goals as goal
+use Rattle.scheduler.proofs.state.State.write_register.Goals as goal
+
+pub write_at-requires-clause-eight : goal.write_at-requires-clause-eight
+write_at-requires-clause-eight c = ∥∥₁_elim c.requires.awake (ℕ_set _ _) (λ a. ap (λ ws. length ws) (c.as_slice.ensures.value ∙ a.4.holds.writes))
 
 pub issue_soonest-requires : goal.issue_soonest-requires
-issue_soonest-requires c =
-    let a = c.requires.awake in
-    let self = c.args.self.now in record {
-      ready = (
+issue_soonest-requires c = record {
+  ready = ∥∥₁_map c.requires.awake
+      (λ a.
+      let self = c.args.self.now in (
         self.ledger.from,
         self.until,
         self.finished,
@@ -15,8 +21,8 @@ issue_soonest-requires c =
         a.2,
         a.3,
         write_ready c.turn_laws.ensures self a.0 a.1 a.2 a.3 c.write_at.result a.4 c.requires.bound c.requires.starting (subst (λ ws. slice_get ws self.ledger.written ≡ Some c.write_at.result) c.as_slice.ensures.value c.write_at.ensures),
-      );
-    }
+      ));
+}
 
 pub returns-clause-after : goal.returns-clause-after
 returns-clause-after c = λ h offered idle log a.
@@ -26,7 +32,8 @@ returns-clause-after c = λ h offered idle log a.
 
 pub returns-clause-bound : goal.returns-clause-bound
 returns-clause-bound c =
-    let a = c.requires.awake in
+    ∥∥₁_elim c.requires.awake le_prop
+    (λ a.
     let self = c.args.self.now in
     c.issue_soonest.ensures.bound self.ledger.from self.until self.finished a.0 a.1 a.2 a.3
-    (write_ready c.turn_laws.ensures self a.0 a.1 a.2 a.3 c.write_at.result a.4 c.requires.bound c.requires.starting (subst (λ ws. slice_get ws self.ledger.written ≡ Some c.write_at.result) c.as_slice.ensures.value c.write_at.ensures))
+    (write_ready c.turn_laws.ensures self a.0 a.1 a.2 a.3 c.write_at.result a.4 c.requires.bound c.requires.starting (subst (λ ws. slice_get ws self.ledger.written ≡ Some c.write_at.result) c.as_slice.ensures.value c.write_at.ensures)))

@@ -1,14 +1,16 @@
 use Rattle.std.proofs.Common.{◌≡◌, ◌∙◌, ℕ, None, ap, sym, subst, max}
+use Rattle.std.proofs.Math.Bridge.{le_prop}
+use Rattle.std.proofs.Math.Logic.{∥∥₁_elim, ∥∥₁_map}
 use Rattle.command_words.specs.declared.command.Command.TheVariants.{PreAb}
 use Rattle.requests.specs.Queue.{places}
 use Rattle.scheduler.specs.Steps.{IsReadySoon}
-use Rattle.scheduler.specs.declared.controller.Controller.{Controller}
+use Rattle.scheduler.specs.declared.state.State.{State}
 use Rattle.scheduler.specs.declared.ledger.Ledger.{Ledger}
 use Rattle.scheduler.proofs.Resting.{rested, rests_of, ends_right, last_ready}
-use Rattle.scheduler.proofs.controller.Controller.rest.Goals as goal
+use Rattle.scheduler.proofs.state.State.rest.Goals as goal
 
 -- the controller at e0
-at_rest : (self : Controller) (ledger : Ledger) (soonest : ℕ) → ledger ≡ record self.ledger { from = soonest } → soonest ≡ max self.ledger.from self.until → record self { ledger = ledger } ≡ rested self
+at_rest : (self : State) (ledger : Ledger) (soonest : ℕ) → ledger ≡ record self.ledger { from = soonest } → soonest ≡ max self.ledger.from self.until → record self { ledger = ledger } ≡ rested self
 at_rest self ledger soonest same e = ap (λ (l : Ledger). record self { ledger = l }) (same ∙ ap (λ n. record self.ledger { from = n }) e)
 
 pub returns-then-not-self-clause-after : goal.returns-then-not-self-clause-after
@@ -23,11 +25,11 @@ returns-then-all_closed-clause-after c = λ h offered idle log r.
     (rests_of c.turn_laws.ensures self (record self { ledger = c.wait_until.new.self }) h offered idle log r c.requires.bound (at_rest self c.wait_until.new.self c.max-soonest.result c.wait_until.ensures.from c.max-soonest.ensures), c.if-not-self.false, ends_right c.turn_laws.ensures self h offered idle log r closed)
 
 pub issue_soonest-requires : goal.issue_soonest-requires
-issue_soonest-requires c =
-    let r = c.requires.resting in
-    let self = c.args.self.now in
-    let opened = sym (c.all_closed.ensures r.0 (places r.3) (c.wait_until.ensures.stands r.0 (places r.3) r.4.awake.holds.ledger).stands) ∙ c.if-all_closed.false in record {
-      ready = (
+issue_soonest-requires c = record {
+  ready = ∥∥₁_map c.requires.resting
+      (λ r.
+      let self = c.args.self.now in
+      let opened = sym (c.all_closed.ensures r.0 (places r.3) (c.wait_until.ensures.stands r.0 (places r.3) r.4.awake.holds.ledger).stands) ∙ c.if-all_closed.false in (
         self.ledger.from,
         self.until,
         self.finished,
@@ -35,24 +37,25 @@ issue_soonest-requires c =
         r.1,
         r.2,
         r.3,
-        subst (λ (x : Controller). IsReadySoon x self.ledger.from self.until self.finished r.0 r.1 r.2 r.3 PreAb None) (sym (at_rest self c.wait_until.new.self c.max-soonest.result c.wait_until.ensures.from c.max-soonest.ensures))
+        subst (λ (x : State). IsReadySoon x self.ledger.from self.until self.finished r.0 r.1 r.2 r.3 PreAb None) (sym (at_rest self c.wait_until.new.self c.max-soonest.result c.wait_until.ensures.from c.max-soonest.ensures))
             (last_ready c.turn_laws.ensures self r.0 r.1 r.2 r.3 r.4 c.requires.bound c.if-not-self.false opened),
-      );
-    }
+      ));
+}
 
 pub returns-clause-after : goal.returns-clause-after
 returns-clause-after c = λ h offered idle log r.
     let self = c.args.self.now in
     let opened = sym (c.all_closed.ensures h (places log) (c.wait_until.ensures.stands h (places log) r.awake.holds.ledger).stands) ∙ c.if-all_closed.false in
     c.issue_soonest.ensures.after self.ledger.from self.until self.finished h offered idle log
-    (subst (λ (x : Controller). IsReadySoon x self.ledger.from self.until self.finished h offered idle log PreAb None) (sym (at_rest self c.wait_until.new.self c.max-soonest.result c.wait_until.ensures.from c.max-soonest.ensures))
+    (subst (λ (x : State). IsReadySoon x self.ledger.from self.until self.finished h offered idle log PreAb None) (sym (at_rest self c.wait_until.new.self c.max-soonest.result c.wait_until.ensures.from c.max-soonest.ensures))
     (last_ready c.turn_laws.ensures self h offered idle log r c.requires.bound c.if-not-self.false opened))
 
 pub returns-clause-bound : goal.returns-clause-bound
 returns-clause-bound c =
-    let r = c.requires.resting in
+    ∥∥₁_elim c.requires.resting le_prop
+    (λ r.
     let self = c.args.self.now in
     let opened = sym (c.all_closed.ensures r.0 (places r.3) (c.wait_until.ensures.stands r.0 (places r.3) r.4.awake.holds.ledger).stands) ∙ c.if-all_closed.false in
     c.issue_soonest.ensures.bound self.ledger.from self.until self.finished r.0 r.1 r.2 r.3
-    (subst (λ (x : Controller). IsReadySoon x self.ledger.from self.until self.finished r.0 r.1 r.2 r.3 PreAb None) (sym (at_rest self c.wait_until.new.self c.max-soonest.result c.wait_until.ensures.from c.max-soonest.ensures))
-    (last_ready c.turn_laws.ensures self r.0 r.1 r.2 r.3 r.4 c.requires.bound c.if-not-self.false opened))
+    (subst (λ (x : State). IsReadySoon x self.ledger.from self.until self.finished r.0 r.1 r.2 r.3 PreAb None) (sym (at_rest self c.wait_until.new.self c.max-soonest.result c.wait_until.ensures.from c.max-soonest.ensures))
+    (last_ready c.turn_laws.ensures self r.0 r.1 r.2 r.3 r.4 c.requires.bound c.if-not-self.false opened)))

@@ -1,13 +1,16 @@
 use Rattle.std.proofs.Common.{None, refl}
+use Rattle.std.proofs.Math.Bridge.{le_prop}
+use Rattle.std.proofs.Math.Logic.{∥∥₁_elim, ∥∥₁_map}
 use Rattle.requests.specs.Queue.{places}
 use Rattle.scheduler.proofs.Ready.{may_of, issues_of, ledger_of, suits_of}
-use Rattle.scheduler.proofs.controller.Controller.issue_soonest.Goals as goal
+use Rattle.scheduler.proofs.state.State.issue_soonest.Goals as goal
 
 pub issue-requires-clause-may : goal.issue-requires-clause-may
 issue-requires-clause-may c =
-    let r = c.requires.ready in
+    ∥∥₁_map c.requires.ready
+    (λ r.
     let k = r.7.ready c.soonest-clock.result (c.soonest-clock.ensures r.3 (places r.6) r.7.ledger) in
-    may_of c.turn_laws.ensures c.args.self.now r.0 r.1 r.2 r.3 r.4 r.5 r.6 c.soonest-clock.result c.args.command None c.args.task c.args.self.now.queue.items k
+    may_of c.turn_laws.ensures c.args.self.now r.0 r.1 r.2 r.3 r.4 r.5 r.6 c.soonest-clock.result c.args.command None c.args.task c.args.self.now.queue.items k)
 
 pub returns-clause-after : goal.returns-clause-after
 returns-clause-after c = λ from until finished h offered idle log r.
@@ -19,3 +22,7 @@ returns-clause-after c = λ from until finished h offered idle log r.
     issues_of laws self c.issue.new.self from until finished h offered idle log clock c.args.command None c.args.task ws self.queue k
     (c.issue.ensures.ledger h (places log) (ledger_of self from until finished h offered idle log clock c.args.command None c.args.task ws k) (suits_of laws self from until finished h offered idle log clock c.args.command None c.args.task ws k))
     c.issue.ensures.from c.issue.ensures.alert refl c.issue.ensures.rest
+
+pub issue-requires-clause-small : goal.issue-requires-clause-small
+issue-requires-clause-small c =
+    ∥∥₁_elim c.requires.ready le_prop (λ r. (r.7.ready c.soonest-clock.result (c.soonest-clock.ensures r.3 (places r.6) r.7.ledger)).near)

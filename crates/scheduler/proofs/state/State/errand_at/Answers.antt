@@ -4,7 +4,7 @@ use Rattle.requests.specs.Queue.{places}
 use Rattle.deadlines.specs.declared.task.Task.{Task}
 use Rattle.scheduler.specs.Steps.{IsErrand}
 use Rattle.scheduler.proofs.Deciding.{backs_off, goes_on, scrubs, refreshes, manages, free_of}
-use Rattle.scheduler.proofs.controller.Controller.errand_at.Goals as goal
+use Rattle.scheduler.proofs.state.State.errand_at.Goals as goal
 
 none_task : (o : Option Task) → ((x : Task) → o ≡ Some x → ⊥) → o ≡ None
 none_task None f = refl

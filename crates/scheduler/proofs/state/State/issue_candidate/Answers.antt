@@ -1,24 +1,36 @@
-use Rattle.std.proofs.Common.{◌≡◌, ◌∙◌, Some, None, ap, sym, refl, subst, slice_get}
+use Rattle.std.proofs.Common.{◌≡◌, ◌<◌, length, ◌∙◌, Some, None, ap, sym, refl, subst, slice_get}
+use Rattle.std.proofs.Math.Bridge.{le_prop}
+use Rattle.std.proofs.Math.Logic.{∥∥₁_elim, ∥∥₁_map}
 use Rattle.std.specs.List.{remove}
 use Rattle.command_words.specs.Kinds.{is_rfm_all}
 use Rattle.requests.specs.Queue.{places}
-use Rattle.scheduler.specs.declared.controller.Controller.{Controller}
+use Rattle.scheduler.specs.declared.state.State.{State}
 use Rattle.scheduler.specs.Choice.{command_for}
 use Rattle.scheduler.specs.Ledger.{MayIssue}
 use Rattle.scheduler.specs.Steps.{id_for, queue_after}
 use Rattle.scheduler.proofs.Ready.{may_of, issues_of, ledger_of, suits_of, ready_column, ready_other}
 use Rattle.scheduler.proofs.Pressing.{candidate_no_rfm}
-use Rattle.scheduler.proofs.controller.Controller.issue_candidate.Goals as goal
+use Rattle.scheduler.proofs.state.State.issue_candidate.Goals as goal
+
+pub waiting_at-waiting-requires-clause-inside : goal.waiting_at-waiting-requires-clause-inside
+waiting_at-waiting-requires-clause-inside c =
+    ∥∥₁_elim c.requires.ready le_prop
+    (λ r. subst (λ ws. c.args.candidate.now.at < length ws) (sym c.as_slice.ensures.value) r.7.inside)
 
 pub issue-requires-clause-may : goal.issue-requires-clause-may
 issue-requires-clause-may c =
-    let r = c.requires.ready in
     let self = c.args.self.now in
     let w = c.waiting_at-waiting.result in
     let k = c.args.candidate.now.class in
     let here = subst (λ xs. slice_get xs c.args.candidate.now.at ≡ Some w) c.as_slice.ensures.value c.waiting_at-waiting.ensures in
     subst (λ x. MayIssue self.ledger c.args.candidate.now.clock x) (sym c.command_for-command.ensures)
-    (may_of c.turn_laws.ensures self r.0 r.1 r.2 r.3 r.4 r.5 r.6 c.args.candidate.now.clock (command_for k w) (id_for k w) c.args.task (queue_after k self.queue.items c.args.candidate.now.at) (r.7.ready w here))
+    (∥∥₁_map c.requires.ready (λ r. may_of c.turn_laws.ensures self r.0 r.1 r.2 r.3 r.4 r.5 r.6 c.args.candidate.now.clock (command_for k w) (id_for k w) c.args.task (queue_after k self.queue.items c.args.candidate.now.at) (r.7.ready w here)))
+
+pub issue-requires-clause-small : goal.issue-requires-clause-small
+issue-requires-clause-small c =
+    let w = c.waiting_at-waiting.result in
+    let here = subst (λ xs. slice_get xs c.args.candidate.now.at ≡ Some w) c.as_slice.ensures.value c.waiting_at-waiting.ensures in
+    ∥∥₁_elim c.requires.ready le_prop (λ r. (r.7.ready w here).near)
 
 pub returns-then-is_column-clause-after : goal.returns-then-is_column-clause-after
 returns-then-is_column-clause-after c = λ from until finished h offered idle log r.
@@ -33,7 +45,7 @@ returns-then-is_column-clause-after c = λ from until finished h offered idle lo
     let same = c.issue.ensures.rest in
     issues_of laws self _ from until finished h offered idle log candidate.clock command (Some w.id) c.args.task ws c.remove.new.self k
     (c.issue.ensures.ledger h (places log) (ledger_of self from until finished h offered idle log candidate.clock command (Some w.id) c.args.task ws k) (suits_of laws self from until finished h offered idle log candidate.clock command (Some w.id) c.args.task ws k))
-    c.issue.ensures.from c.issue.ensures.alert (c.remove.ensures.items ∙ ap (λ (x : Controller). remove x.queue.items candidate.at) same) (ap (λ (x : Controller). record x { queue = c.remove.new.self }) same)
+    c.issue.ensures.from c.issue.ensures.alert (c.remove.ensures.items ∙ ap (λ (x : State). remove x.queue.items candidate.at) same) (ap (λ (x : State). record x { queue = c.remove.new.self }) same)
 
 pub returns-else-is_column-clause-after : goal.returns-else-is_column-clause-after
 returns-else-is_column-clause-after c = λ from until finished h offered idle log r.

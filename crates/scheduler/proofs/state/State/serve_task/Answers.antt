@@ -1,4 +1,6 @@
 use Rattle.std.proofs.Common.{◌≡◌, ◌∙◌, ℕ, ◌<◌, Some, None, Option, List, Bool, true, false, IsTrue, IfNone, ◌↔◌, ap, sym, subst, arith}
+use Rattle.std.proofs.Math.Bridge.{le_prop}
+use Rattle.std.proofs.Math.Logic.{∥∥₁_elim, ∥∥₁_map}
 use Rattle.command_words.specs.declared.command.Command.{Command}
 use Rattle.speed_bin.specs.Log.{Log}
 use Rattle.bank_state.specs.Standing.{Fits}
@@ -11,19 +13,25 @@ use Rattle.scheduler.specs.Board.{first_at}
 use Rattle.scheduler.specs.Choice.{is_asked}
 use Rattle.scheduler.specs.Steps.{IsReadyFor, IsReadySoon}
 use Rattle.scheduler.specs.Task.{is_asked_for}
-use Rattle.scheduler.specs.declared.controller.Controller.{Controller}
+use Rattle.scheduler.specs.declared.state.State.{State}
 use Rattle.scheduler.specs.declared.ledger.Ledger.{Ledger}
 use Rattle.scheduler.proofs.Serving.{column_ready, all_paid, shut_ready, end_ready}
 use Rattle.scheduler.proofs.Turning.{at_none, best_as}
-use Rattle.scheduler.proofs.controller.Controller.serve_task.Goals as goal
+use Rattle.scheduler.proofs.state.State.serve_task.Goals as goal
+
+pub wait_until-requires : goal.wait_until-requires
+wait_until-requires c = ∥∥₁_elim c.requires.serving le_prop (λ r. r.4.errand_is.late)
+
+pub choose-requires-clause-ledger : goal.choose-requires-clause-ledger
+choose-requires-clause-ledger c = ∥∥₁_map c.requires.serving (λ r. (r.0, places r.3, c.wait_until.ensures.stands r.0 (places r.3) r.4.awake.holds.ledger))
 
 pub issue_candidate-requires : goal.issue_candidate-requires
-issue_candidate-requires c =
-    let r = c.requires.serving in
-    let self = c.args.self.now in
-    let errand = c.args.errand in
-    let same = c.wait_until.ensures.from in record {
-      ready = (
+issue_candidate-requires c = record {
+  ready = ∥∥₁_map c.requires.serving
+      (λ r.
+      let self = c.args.self.now in
+      let errand = c.args.errand in
+      let same = c.wait_until.ensures.from in (
         self.ledger.from,
         self.until,
         self.finished,
@@ -31,13 +39,13 @@ issue_candidate-requires c =
         r.1,
         r.2,
         r.3,
-        subst (λ (x : Controller). IsReadyFor x self.ledger.from self.until self.finished r.0 r.1 r.2 r.3 c.in-Some.candidate (Some errand.task)) (sym (ap (λ (l : Ledger). record self { ledger = l }) same))
+        subst (λ (x : State). IsReadyFor x self.ledger.from self.until self.finished r.0 r.1 r.2 r.3 c.in-Some.candidate (Some errand.task)) (sym (ap (λ (l : Ledger). record self { ledger = l }) same))
             (column_ready c.turn_laws.ensures self r.0 r.1 r.2 r.3 errand c.owed_for-asked.result c.in-Some.candidate r.4 c.requires.bound
             (λ i low. c.owed_for-asked.ensures i low ∙ ap (λ (l : Ledger). is_asked_for errand.task l.owed i) same)
             (best_as r.0 c.as_slice.result.now self.queue.items (places r.3) c.wait_until.new.self.from errand.start c.owed_for-asked.result c.in-Some.candidate c.as_slice.ensures.value (ap (λ (l : Ledger). l.from) same)
             (c.in-Some.ensures.some r.0 (places r.3) (c.wait_until.ensures.stands r.0 (places r.3) r.4.awake.holds.ledger)))),
-      );
-    }
+      ));
+}
 
 pub returns-in-Some-clause-after : goal.returns-in-Some-clause-after
 returns-in-Some-clause-after c = λ h offered idle log r.
@@ -45,7 +53,7 @@ returns-in-Some-clause-after c = λ h offered idle log r.
     let errand = c.args.errand in
     let same = c.wait_until.ensures.from in
     c.issue_candidate.ensures.after self.ledger.from self.until self.finished h offered idle log
-    (subst (λ (x : Controller). IsReadyFor x self.ledger.from self.until self.finished h offered idle log c.in-Some.candidate (Some errand.task)) (sym (ap (λ (l : Ledger). record self { ledger = l }) same))
+    (subst (λ (x : State). IsReadyFor x self.ledger.from self.until self.finished h offered idle log c.in-Some.candidate (Some errand.task)) (sym (ap (λ (l : Ledger). record self { ledger = l }) same))
     (column_ready c.turn_laws.ensures self h offered idle log errand c.owed_for-asked.result c.in-Some.candidate r c.requires.bound
     (λ i low. c.owed_for-asked.ensures i low ∙ ap (λ (l : Ledger). is_asked_for errand.task l.owed i) same)
     (best_as h c.as_slice.result.now self.queue.items (places log) c.wait_until.new.self.from errand.start c.owed_for-asked.result c.in-Some.candidate c.as_slice.ensures.value (ap (λ (l : Ledger). l.from) same)
@@ -53,7 +61,8 @@ returns-in-Some-clause-after c = λ h offered idle log r.
 
 pub returns-in-Some-clause-bound : goal.returns-in-Some-clause-bound
 returns-in-Some-clause-bound c =
-    let r = c.requires.serving in
+    ∥∥₁_elim c.requires.serving le_prop
+    (λ r.
     let self = c.args.self.now in
     let errand = c.args.errand in
     let same = c.wait_until.ensures.from in
@@ -62,7 +71,7 @@ returns-in-Some-clause-bound c =
     (best_as r.0 c.as_slice.result.now self.queue.items (places r.3) c.wait_until.new.self.from errand.start c.owed_for-asked.result c.in-Some.candidate c.as_slice.ensures.value (ap (λ (l : Ledger). l.from) same)
     (c.in-Some.ensures.some r.0 (places r.3) (c.wait_until.ensures.stands r.0 (places r.3) r.4.awake.holds.ledger))) in
     let soon = k.soon in
-    let at = c.issue_candidate.ensures.from in omega (arith, soon, at)
+    let at = c.issue_candidate.ensures.from in omega (arith, soon, at))
 
 asked_for : (task : Task) (asked : List Bool) (old new : Ledger) (start : ℕ) → new ≡ record old { from = start } → ((b : ℕ) → b < 32 → is_asked asked b ≡ is_asked_for task new.owed b) → (b : ℕ) → b < 32 → is_asked asked b ≡ is_asked_for task old.owed b
 asked_for task asked old new start same f b low = f b low ∙ ap (λ (l : Ledger). is_asked_for task l.owed b) same
@@ -77,15 +86,15 @@ fits_own : (command own : Command) (log : Log) (t : Bool) → command ≡ own �
 fits_own command own log t same f e = subst (λ x. Fits x log) same (f.0 e)
 
 pub issue_soonest-requires : goal.issue_soonest-requires
-issue_soonest-requires c =
-    let r = c.requires.serving in
-    let self = c.args.self.now in
-    let errand = c.args.errand in
-    let same = c.wait_until.ensures.from in
-    let asked = c.owed_for-asked.result in
-    let paid = all_paid self r.0 r.1 r.2 r.3 errand.task asked r.4.awake.holds (asked_for errand.task asked self.ledger c.wait_until.new.self errand.start same c.owed_for-asked.ensures) (silent asked c.as_slice.result.now self.queue.items c.choose.result c.as_slice.ensures.value c.in_default.not-Some c.choose.ensures.none) in
-    let no_fit = not_fit c.command_of-command.result (command_of errand.task) (places r.3) c.fits.result c.command_of-command.ensures (c.fits.ensures r.0 (places r.3) (c.wait_until.ensures.stands r.0 (places r.3) r.4.awake.holds.ledger)) c.if-not-fits.true in record {
-      ready = (
+issue_soonest-requires c = record {
+  ready = ∥∥₁_map c.requires.serving
+      (λ r.
+      let self = c.args.self.now in
+      let errand = c.args.errand in
+      let same = c.wait_until.ensures.from in
+      let asked = c.owed_for-asked.result in
+      let paid = all_paid self r.0 r.1 r.2 r.3 errand.task asked r.4.awake.holds (asked_for errand.task asked self.ledger c.wait_until.new.self errand.start same c.owed_for-asked.ensures) (silent asked c.as_slice.result.now self.queue.items c.choose.result c.as_slice.ensures.value c.in_default.not-Some c.choose.ensures.none) in
+      let no_fit = not_fit c.command_of-command.result (command_of errand.task) (places r.3) c.fits.result c.command_of-command.ensures (c.fits.ensures r.0 (places r.3) (c.wait_until.ensures.stands r.0 (places r.3) r.4.awake.holds.ledger)) c.if-not-fits.true in (
         self.ledger.from,
         self.until,
         self.finished,
@@ -94,10 +103,10 @@ issue_soonest-requires c =
         r.2,
         r.3,
         subst (λ x. IsReadySoon (record self { ledger = c.wait_until.new.self }) self.ledger.from self.until self.finished r.0 r.1 r.2 r.3 x (Some errand.task)) (sym c.precharge_of.ensures)
-            (subst (λ (x : Controller). IsReadySoon x self.ledger.from self.until self.finished r.0 r.1 r.2 r.3 (precharge_of errand.task) (Some errand.task)) (sym (ap (λ (l : Ledger). record self { ledger = l }) same))
+            (subst (λ (x : State). IsReadySoon x self.ledger.from self.until self.finished r.0 r.1 r.2 r.3 (precharge_of errand.task) (Some errand.task)) (sym (ap (λ (l : Ledger). record self { ledger = l }) same))
             (shut_ready c.turn_laws.ensures self r.0 r.1 r.2 r.3 errand r.4 c.requires.bound paid no_fit)),
-      );
-    }
+      ));
+}
 
 pub returns-then-not-fits-clause-after : goal.returns-then-not-fits-clause-after
 returns-then-not-fits-clause-after c = λ h offered idle log r.
@@ -109,12 +118,13 @@ returns-then-not-fits-clause-after c = λ h offered idle log r.
     let no_fit = not_fit c.command_of-command.result (command_of errand.task) (places log) c.fits.result c.command_of-command.ensures (c.fits.ensures h (places log) (c.wait_until.ensures.stands h (places log) r.awake.holds.ledger)) c.if-not-fits.true in
     c.issue_soonest.ensures.after self.ledger.from self.until self.finished h offered idle log
     (subst (λ x. IsReadySoon (record self { ledger = c.wait_until.new.self }) self.ledger.from self.until self.finished h offered idle log x (Some errand.task)) (sym c.precharge_of.ensures)
-    (subst (λ (x : Controller). IsReadySoon x self.ledger.from self.until self.finished h offered idle log (precharge_of errand.task) (Some errand.task)) (sym (ap (λ (l : Ledger). record self { ledger = l }) same))
+    (subst (λ (x : State). IsReadySoon x self.ledger.from self.until self.finished h offered idle log (precharge_of errand.task) (Some errand.task)) (sym (ap (λ (l : Ledger). record self { ledger = l }) same))
     (shut_ready c.turn_laws.ensures self h offered idle log errand r c.requires.bound paid no_fit)))
 
 pub returns-then-not-fits-clause-bound : goal.returns-then-not-fits-clause-bound
 returns-then-not-fits-clause-bound c =
-    let r = c.requires.serving in
+    ∥∥₁_elim c.requires.serving le_prop
+    (λ r.
     let self = c.args.self.now in
     let errand = c.args.errand in
     let same = c.wait_until.ensures.from in
@@ -123,17 +133,17 @@ returns-then-not-fits-clause-bound c =
     let no_fit = not_fit c.command_of-command.result (command_of errand.task) (places r.3) c.fits.result c.command_of-command.ensures (c.fits.ensures r.0 (places r.3) (c.wait_until.ensures.stands r.0 (places r.3) r.4.awake.holds.ledger)) c.if-not-fits.true in
     c.issue_soonest.ensures.bound self.ledger.from self.until self.finished r.0 r.1 r.2 r.3
     (subst (λ x. IsReadySoon (record self { ledger = c.wait_until.new.self }) self.ledger.from self.until self.finished r.0 r.1 r.2 r.3 x (Some errand.task)) (sym c.precharge_of.ensures)
-    (subst (λ (x : Controller). IsReadySoon x self.ledger.from self.until self.finished r.0 r.1 r.2 r.3 (precharge_of errand.task) (Some errand.task)) (sym (ap (λ (l : Ledger). record self { ledger = l }) same))
-    (shut_ready c.turn_laws.ensures self r.0 r.1 r.2 r.3 errand r.4 c.requires.bound paid no_fit)))
+    (subst (λ (x : State). IsReadySoon x self.ledger.from self.until self.finished r.0 r.1 r.2 r.3 (precharge_of errand.task) (Some errand.task)) (sym (ap (λ (l : Ledger). record self { ledger = l }) same))
+    (shut_ready c.turn_laws.ensures self r.0 r.1 r.2 r.3 errand r.4 c.requires.bound paid no_fit))))
 
 pub issue_soonest-requires-2 : goal.issue_soonest-requires-2
-issue_soonest-requires-2 c =
-    let r = c.requires.serving in
-    let self = c.args.self.now in
-    let errand = c.args.errand in
-    let same = c.wait_until.ensures.from in
-    let fit = fits_own c.command_of-command.result (command_of errand.task) (places r.3) c.fits.result c.command_of-command.ensures (c.fits.ensures r.0 (places r.3) (c.wait_until.ensures.stands r.0 (places r.3) r.4.awake.holds.ledger)) c.if-not-fits.false in record {
-      ready = (
+issue_soonest-requires-2 c = record {
+  ready = ∥∥₁_map c.requires.serving
+      (λ r.
+      let self = c.args.self.now in
+      let errand = c.args.errand in
+      let same = c.wait_until.ensures.from in
+      let fit = fits_own c.command_of-command.result (command_of errand.task) (places r.3) c.fits.result c.command_of-command.ensures (c.fits.ensures r.0 (places r.3) (c.wait_until.ensures.stands r.0 (places r.3) r.4.awake.holds.ledger)) c.if-not-fits.false in (
         self.ledger.from,
         self.until,
         self.finished,
@@ -142,10 +152,10 @@ issue_soonest-requires-2 c =
         r.2,
         r.3,
         subst (λ x. IsReadySoon (record self { ledger = c.wait_until.new.self }) self.ledger.from self.until self.finished r.0 r.1 r.2 r.3 x None) (sym c.command_of-command.ensures)
-            (subst (λ (x : Controller). IsReadySoon x self.ledger.from self.until self.finished r.0 r.1 r.2 r.3 (command_of errand.task) None) (sym (ap (λ (l : Ledger). record self { ledger = l }) same))
+            (subst (λ (x : State). IsReadySoon x self.ledger.from self.until self.finished r.0 r.1 r.2 r.3 (command_of errand.task) None) (sym (ap (λ (l : Ledger). record self { ledger = l }) same))
             (end_ready c.turn_laws.ensures self r.0 r.1 r.2 r.3 errand r.4 c.requires.bound fit)),
-      );
-    }
+      ));
+}
 
 pub returns-clause-after : goal.returns-clause-after
 returns-clause-after c = λ h offered idle log r.
@@ -155,17 +165,18 @@ returns-clause-after c = λ h offered idle log r.
     let fit = fits_own c.command_of-command.result (command_of errand.task) (places log) c.fits.result c.command_of-command.ensures (c.fits.ensures h (places log) (c.wait_until.ensures.stands h (places log) r.awake.holds.ledger)) c.if-not-fits.false in
     c.issue_soonest-2.ensures.after self.ledger.from self.until self.finished h offered idle log
     (subst (λ x. IsReadySoon (record self { ledger = c.wait_until.new.self }) self.ledger.from self.until self.finished h offered idle log x None) (sym c.command_of-command.ensures)
-    (subst (λ (x : Controller). IsReadySoon x self.ledger.from self.until self.finished h offered idle log (command_of errand.task) None) (sym (ap (λ (l : Ledger). record self { ledger = l }) same))
+    (subst (λ (x : State). IsReadySoon x self.ledger.from self.until self.finished h offered idle log (command_of errand.task) None) (sym (ap (λ (l : Ledger). record self { ledger = l }) same))
     (end_ready c.turn_laws.ensures self h offered idle log errand r c.requires.bound fit)))
 
 pub returns-clause-bound : goal.returns-clause-bound
 returns-clause-bound c =
-    let r = c.requires.serving in
+    ∥∥₁_elim c.requires.serving le_prop
+    (λ r.
     let self = c.args.self.now in
     let errand = c.args.errand in
     let same = c.wait_until.ensures.from in
     let fit = fits_own c.command_of-command.result (command_of errand.task) (places r.3) c.fits.result c.command_of-command.ensures (c.fits.ensures r.0 (places r.3) (c.wait_until.ensures.stands r.0 (places r.3) r.4.awake.holds.ledger)) c.if-not-fits.false in
     c.issue_soonest-2.ensures.bound self.ledger.from self.until self.finished r.0 r.1 r.2 r.3
     (subst (λ x. IsReadySoon (record self { ledger = c.wait_until.new.self }) self.ledger.from self.until self.finished r.0 r.1 r.2 r.3 x None) (sym c.command_of-command.ensures)
-    (subst (λ (x : Controller). IsReadySoon x self.ledger.from self.until self.finished r.0 r.1 r.2 r.3 (command_of errand.task) None) (sym (ap (λ (l : Ledger). record self { ledger = l }) same))
-    (end_ready c.turn_laws.ensures self r.0 r.1 r.2 r.3 errand r.4 c.requires.bound fit)))
+    (subst (λ (x : State). IsReadySoon x self.ledger.from self.until self.finished r.0 r.1 r.2 r.3 (command_of errand.task) None) (sym (ap (λ (l : Ledger). record self { ledger = l }) same))
+    (end_ready c.turn_laws.ensures self r.0 r.1 r.2 r.3 errand r.4 c.requires.bound fit))))
