@@ -10,7 +10,7 @@ pub record Pieces (start held : List ℕ) (left rest : Option (List ℕ)) : Type
   pub last : List ℕ
   pub is : held ≡ start ++ earlier ++ last
   pub consumed : Consumes left rest (earlier ++ last)
-  pub room : length last ≤ 16384
+  pub room : length last ≤ 4096
   pub clean : HasNoFeed start → HasNoFeed (start ++ earlier)
 
 -- the same, opaque to the search for proofs
@@ -30,7 +30,7 @@ Taken-none held left = record {
 }
 
 -- one more read, of a reader without a line feed
-pub Taken-more : (start held more bs : List ℕ) (left mid rest : Option (List ℕ)) → Taken start held left mid → HasNoFeed held → more ≡ held ++ bs → length bs ≤ 16384 → Consumes mid rest bs → Taken start more left rest
+pub Taken-more : (start held more bs : List ℕ) (left mid rest : Option (List ℕ)) → Taken start held left mid → HasNoFeed held → more ≡ held ++ bs → length bs ≤ 4096 → Consumes mid rest bs → Taken start more left rest
 unfolding Taken
 Taken-more start held more bs left mid rest so_far clean added room consumed =
     let whole : held ≡ start ++ (so_far.earlier ++ so_far.last) = so_far.is ∙ append_assoc start so_far.earlier so_far.last in record {

@@ -25,9 +25,9 @@ IsFeedAt xs at = (at < length xs) × (slice_index xs at ≡ line_feed) × HasNoF
 abbrev pub next_bytes : List ℕ → Option (List ℕ) → Option (List ℕ)
 next_bytes held left = prepend_known held left
 
--- what a reader without a line feed took from its source: bytes that leave it without one, and then what one read gave, into the 16384 bytes of its room
+-- what a reader without a line feed took from its source: bytes that leave it without one, and then what one read gave, into the 4096 bytes of its room
 unfoldable pub TakesToFeed : List ℕ → Option (List ℕ) → Option (List ℕ) → Type 0
-TakesToFeed held left rest = (earlier : List ℕ) × (last : List ℕ) × HasNoFeed (held ++ earlier) × (length last ≤ 16384) × Consumes left rest (earlier ++ last)
+TakesToFeed held left rest = (earlier : List ℕ) × (last : List ℕ) × HasNoFeed (held ++ earlier) × (length last ≤ 4096) × Consumes left rest (earlier ++ last)
 
 -- the next 512 bytes hold no line feed
 abbrev pub IsTooLong : Option (List ℕ) → Type 0

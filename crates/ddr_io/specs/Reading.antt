@@ -14,7 +14,7 @@ pub record Reading : Type 0 where
 
 -- a read put its bytes behind those that are held
 abbrev pub Added : Reading → Reading → Option (List ℕ) → Option (List ℕ) → Got → Type 0
-Added old new left rest (Bytes n) = (bs : List ℕ) × (new.held ≡ old.held ++ bs) × (1 ≤ length bs) × (length bs ≤ 16384) × Consumes left rest bs
+Added old new left rest (Bytes n) = (bs : List ℕ) × (new.held ≡ old.held ++ bs) × (1 ≤ length bs) × (length bs ≤ 4096) × Consumes left rest bs
 Added old new left rest End = (new.held ≡ old.held) × IsAtEnd left × Keeps left rest
 Added old new left rest Failed = (new.held ≡ old.held) × Keeps left rest
 

@@ -26,8 +26,9 @@ pub enum Line {
 // A line and its line feed are at most so long.
 const MAX_LINE: usize = 512;
 
-// The bytes that the reader has room for. One read asks for at least half of them.
-const ROOM: usize = 16384;
+// The bytes that the reader has room for. One read asks for at least half of them. The room is part of the reader, and is
+// copied where that is moved, so it is no larger than a page.
+const ROOM: usize = 4096;
 
 /// Cuts the bytes of a source into lines. It holds what it has read and not yet given.
 ///

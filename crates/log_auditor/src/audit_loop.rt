@@ -90,6 +90,7 @@ fn find<S: Source>(alloc: Global, source: &mut S) -> Result<Finding, Stop>
 }
 
 // Reads the lines behind the opening.
+#[inline(never)]
 fn find_behind<S: Source>(
     alloc: Global,
     header: &Header,

@@ -39,6 +39,7 @@ impl Auditor {
     ///
     /// # Errors
     /// Want of memory.
+    #[inline(never)]
     pub fn new(alloc: Global, header: &Header) -> Result<Auditor, OutOfMemory>
         requires { IsAccepted header.now }
         ensures stands { IfOk result (λ auditor. StandsFor auditor header.now []) }

@@ -21,7 +21,8 @@ use std::marker::Model;
 /// stands, so that its answers need no condition.
 #[derive(Drop)]
 pub struct Gate {
-    clocks: Clocks,
+    // On the heap, so that whoever holds a gate can move it without a copy of its tables.
+    clocks: Box<Clocks>,
 }
 
 impl Model for Gate {
@@ -31,21 +32,21 @@ impl Model for Gate {
 
     ghost Value = { Clocks };
 
-    ghost view = { λ g. g.clocks };
+    ghost view = { λ g. g.clocks.value };
 
-    ghost invariant = { λ g. IsTiming g.clocks.timing × StandsForSome g.clocks };
+    ghost invariant = { λ g. IsTiming g.clocks.value.timing × StandsForSome g.clocks.value };
 }
 
 impl Gate {
     /// With no command issued. The timing numbers are 1 to 65,535 clocks each.
+    #[inline(never)]
     pub fn new(alloc: Global, timing: &Timing) -> Result<Gate, OutOfMemory>
         requires { IsTiming timing.now }
         ensures { IfOk result (λ gate. StandsFor gate timing.now []) }
     {
-        match HeapCircularBuffer::with_capacity(alloc, 4) {
-            Ok(window) => Ok(Gate {
-                clocks: Clocks::new(timing, window),
-            }),
+        let window = HeapCircularBuffer::with_capacity(alloc, 4)?;
+        match Box::new(alloc, Clocks::new(timing, window)) {
+            Ok(clocks) => Ok(Gate { clocks }),
             Err(_) => Err(OutOfMemory),
         }
     }

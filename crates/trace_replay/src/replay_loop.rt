@@ -139,6 +139,7 @@ fn run_trace<S: Source, K: Sink>(
 }
 
 // Writes the report but for the lines that end it, and answers those.
+#[inline(never)]
 fn serve_trace<S: Source, K: Sink>(
     alloc: Global,
     header: &Header,
