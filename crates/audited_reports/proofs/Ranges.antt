@@ -8,7 +8,7 @@ use Rattle.speed_bin.proofs.Tests.{joined}
 use Rattle.command_words.specs.declared.command.Command.{Command}
 use Rattle.command_words.specs.declared.command.Command.TheVariants.{Act, Rd, Wr, PrePb, PreSb, PreAb, RefAb, RefSb, RfmAb, RfmSb, Mrw, Ecs, Nop}
 use Rattle.ddr_text.specs.AcceptedReport.{IsReportLine}
-use Rattle.ddr_text.specs.Ranges.{IsWithin}
+use Rattle.ddr_text.specs.Ranges.{IsCommandOf}
 use Rattle.ddr_text.specs.ReportGrammar.{has_place}
 use Rattle.ddr_text.specs.declared.lines.ReportLine.{ReportLine}
 use Rattle.ddr_text.specs.declared.lines.TraceLine.{TraceLine}
@@ -80,7 +80,7 @@ few-groups : (g k : ℕ) → IsGroups k → g < k → g < 8
 few-groups g k (inl e) low = omega (arith, e, low)
 few-groups g k (inr e) low = omega (arith, e, low)
 
-in-range : (h : Header) (command : Command) → IsAccepted h → IsWithin (shape_of h) command → IsInRange command
+in-range : (h : Header) (command : Command) → IsAccepted h → IsCommandOf (shape_of h) command → IsInRange command
 in-range h (Act bank row) a w = (record { group = few-groups bank.group h.version.groups a.version.2 w.0.group; address = w.0.address }, omega (arith, w.1, a.settings.rows.1))
 in-range h (Rd bank column) a w = (record { group = few-groups bank.group h.version.groups a.version.2 w.0.group; address = w.0.address }, w.1)
 in-range h (Wr bank column) a w = (record { group = few-groups bank.group h.version.groups a.version.2 w.0.group; address = w.0.address }, w.1)
@@ -95,7 +95,7 @@ in-range h (Mrw write) a w = w
 in-range h Ecs a w = tt
 in-range h Nop a w = tt
 
-row-within : (g : Shape) (command : Command) → IsWithin g command → has_place g command ≡ true
+row-within : (g : Shape) (command : Command) → IsCommandOf g command → has_place g command ≡ true
 row-within g (Act bank row) w = joined (nat_lt row g.rows) (nat_lt bank.group g.groups) (lt-ltb row g.rows w.1) (lt-ltb bank.group g.groups w.0.group)
 row-within g (Rd bank column) w = lt-ltb bank.group g.groups w.0.group
 row-within g (Wr bank column) w = lt-ltb bank.group g.groups w.0.group

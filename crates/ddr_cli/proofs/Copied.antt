@@ -12,7 +12,8 @@ use Rattle.ddr_text.specs.declared.lines.LineFault.{LineFault}
 use Rattle.ddr_text.specs.declared.lines.ReportLine.{ReportLine}
 use Rattle.log_auditor.specs.Reading.{Lines, Placed, in_place, placed, stage_after, judged_line, judged_rest, behind_line, stage_behind, refusal_at, is_whole, lines_in}
 use Rattle.log_auditor.specs.declared.report_reader.Stage.{Stage}
-use Rattle.ddr_cli.specs.Output.{output_behind, refusal_text}
+use Rattle.ddr_text.specs.Outcome.{refusal_text}
+use Rattle.ddr_cli.specs.Behind.{outcome_behind}
 use Rattle.ddr_cli.specs.Upgraded.{kept, kept_of}
 
 placed_same : (line : ReportLine) (o : Option Stage) (found : Placed) → placed line o ≡ Ok found → line ≡ found.line
@@ -82,7 +83,7 @@ copied-before laws g stage number (text ∷ next ∷ parts) =
 -- ---- The bytes behind an opening
 
 -- what stays of them is what is written of their lines
-pub kept-is : ReportLines → (g : Shape) (stage : Stage) (rest : List ℕ) → kept rest (lines_in g stage 1 (parts_of rest)) ≡ (output_behind spelled (lines_in g stage 1 (parts_of rest))).text
+pub kept-is : ReportLines → (g : Shape) (stage : Stage) (rest : List ℕ) → kept rest (lines_in g stage 1 (parts_of rest)) ≡ (outcome_behind spelled (lines_in g stage 1 (parts_of rest))).text
 kept-is laws g stage rest = go (lines_in g stage 1 (parts_of rest)).refusal refl
   where
     go : (refusal : Option Refusal) → (lines_in g stage 1 (parts_of rest)).refusal ≡ refusal

@@ -4,7 +4,7 @@ pub mod MadeJob
 pub mod MadeRun
 pub mod MadeWords
 pub mod OneWord
-pub mod OutputLemmas
+pub mod BehindLemmas
 pub mod ShowLemmas
 mod UpgradeLemmas
 mod UpgradedAs

@@ -8,29 +8,26 @@ use Rattle.std.proofs.lemmas.List.Elements.{All-head, All-tail, All-weaker}
 use Rattle.std.proofs.lemmas.List.Splits.{slice_split_at, slice_split-cons_yes, slice_split-cons_no}
 use Rattle.ddr_io.specs.Line.{HasNoFeed}
 use Rattle.ddr_text.specs.Grammar.{fields_of}
-use Rattle.ddr_text.specs.Opening.{Accepts, Heading, is_feed, is_long, parts_of, heading_in, judged, behind, with_heading, opening_of}
+use Rattle.ddr_text.specs.Opening.{Accepts, Heading, is_feed, is_long, parts_of, heading_in, judged, behind, with_feed, with_heading, opening_of}
 use Rattle.ddr_text.specs.Separator.{role_of_line}
+use Rattle.ddr_text.proofs.CleanParts.{first-part, line-part}
+use Rattle.ddr_text.proofs.LineParts.{no_feeds}
 use Rattle.speed_bin.specs.Version.{plain}
 use Rattle.ddr_text.specs.declared.lines.TraceLine.{TraceLine}
 use Rattle.ddr_text.specs.declared.lines.TraceLine.TheVariants.{Read, Write, Flip, Idle}
 use Rattle.speed_bin.specs.Document.{header_stated}
 use Rattle.made_jobs.specs.Made.{header_text, header_lines, opening, made, made_trace}
 use Rattle.made_jobs.specs.Replayed.{IsReadBack, IsRequest, made_header, made_shape}
-use Rattle.made_jobs.specs.TraceText.{with_feed, spelled_line, trace_text}
+use Rattle.made_jobs.specs.TraceText.{spelled_line, trace_text}
 use Rattle.reports.specs.Barriers.{idle_clocks}
 use Rattle.trace_replay.specs.Job.{IsJobOf, with_line, with_part, continued, ended, trace_from}
 
 -- ---- Parts
 
-not_feed : (byte : ℕ) → byte ≢ 10 → is_feed byte ≡ false
-not_feed byte h = ne_eqb byte 10 h
-
 -- the parts of a line with its line feed, and of what is behind it
 line_part : (line rest : List ℕ) → HasNoFeed line → parts_of (with_feed line ++ rest) ≡ line ∷ parts_of rest
 unfolding parts_of
-line_part line rest h =
-    ap (slice_split is_feed) (append_assoc line (10 ∷ []) rest)
-    ∙ slice_split_at is_feed line 10 rest (All-weaker (λ byte. byte ≢ 10) (λ byte. is_feed byte ≡ false) not_feed line h) refl
+line_part line rest h = line-part line rest (no_feeds line h)
 
 -- the parts of no bytes
 no_part : parts_of [] ≡ [] ∷ []
@@ -40,13 +37,7 @@ no_part = refl
 -- bytes have one part at least
 some_part : (bytes : List ℕ) → (first : List ℕ) × (rest : List (List ℕ)) × (parts_of bytes ≡ first ∷ rest)
 unfolding parts_of
-some_part [] = ([], [], refl)
-some_part (byte ∷ bytes) = go (is_feed byte) refl (some_part bytes)
-  where
-    go : (b : Bool) → is_feed byte ≡ b → ((first : List ℕ) × (rest : List (List ℕ)) × (slice_split is_feed bytes ≡ first ∷ rest))
-        → (first : List ℕ) × (rest : List (List ℕ)) × (slice_split is_feed (byte ∷ bytes) ≡ first ∷ rest)
-    go true e more = ([], slice_split is_feed bytes, slice_split-cons_yes is_feed byte bytes e)
-    go false e more = (byte ∷ more.0, more.1, slice_split-cons_no is_feed byte bytes e ∙ ap (onto_first byte) more.2)
+some_part bytes = first-part bytes
 
 -- ---- The trace
 

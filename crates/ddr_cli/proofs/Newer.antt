@@ -18,7 +18,7 @@ use Rattle.ddr_text.proofs.Reopened.{IsSeparator, again, own-separator, reopens-
 use Rattle.log_auditor.specs.Findings.{finding_of, found_in}
 use Rattle.log_auditor.specs.Reading.{lines_in}
 use Rattle.log_auditor.specs.declared.report_reader.Stage.TheVariants.{Body}
-use Rattle.ddr_cli.specs.Output.{Output, refusal_text, status_of}
+use Rattle.ddr_text.specs.Outcome.{Outcome, refusal_status, refusal_text}
 use Rattle.ddr_cli.specs.Upgraded.{newer, newer_heading, upgraded, upgraded_from, upgraded_with, kept_of, IsWellFormed}
 use Rattle.ddr_cli.proofs.UpgradedAs.{upgraded-with}
 
@@ -66,14 +66,14 @@ newer-twice separator = go (bytes_eq separator (codes "---")) refl
 upgraded-is : (bytes : List ℕ) (heading : Heading) (h : Header) (rest : List ℕ) → IsWellFormed bytes heading h rest → upgraded bytes ≡ record { text = opening_text (newer_heading heading) ++ rest; status = status.Ok }
 upgraded-is bytes heading h rest w =
     upgraded-with bytes heading h rest w.heading_is w.stated w.rest_is
-    ∙ ap (λ o. record { text = opening_text (newer_heading heading) ++ (kept_of rest (length (lines_in (shape_of h) Body 1 (parts_of rest)).lines) o ++ refusal_text o); status = status_of o }) w.fine
+    ∙ ap (λ o. record { text = opening_text (newer_heading heading) ++ (kept_of rest (length (lines_in (shape_of h) Body 1 (parts_of rest)).lines) o ++ refusal_text o); status = refusal_status o }) w.fine
     ∙ ap (λ r. record { text = opening_text (newer_heading heading) ++ r; status = status.Ok }) (append-nil rest)
 
 pub bytes-are : (bytes : List ℕ) (heading : Heading) (h : Header) (rest : List ℕ) → IsWellFormed bytes heading h rest → (upgraded bytes).text ≡ opening_text (newer_heading heading) ++ rest
-bytes-are bytes heading h rest w = ap (λ (o : Output). o.text) (upgraded-is bytes heading h rest w)
+bytes-are bytes heading h rest w = ap (λ (o : Outcome). o.text) (upgraded-is bytes heading h rest w)
 
 pub status-is : (bytes : List ℕ) (heading : Heading) (h : Header) (rest : List ℕ) → IsWellFormed bytes heading h rest → (upgraded bytes).status ≡ status.Ok
-status-is bytes heading h rest w = ap (λ (o : Output). o.status) (upgraded-is bytes heading h rest w)
+status-is bytes heading h rest w = ap (λ (o : Outcome). o.status) (upgraded-is bytes heading h rest w)
 
 newer-opens : (bytes : List ℕ) (heading : Heading) (h : Header) (rest : List ℕ) → IsWellFormed bytes heading h rest → opening_of (opening_text (newer_heading heading) ++ rest) ≡ Accepts h (opening_text (newer_heading heading)) rest
 newer-opens bytes heading h rest w =
@@ -111,7 +111,7 @@ twice bytes heading h rest w =
 
 -- ---- The status
 
-no-refusal : (refusal : Option Refusal) → status_of refusal ≡ status.Ok → refusal ≡ None
+no-refusal : (refusal : Option Refusal) → refusal_status refusal ≡ status.Ok → refusal ≡ None
 no-refusal None e = refl
 no-refusal (Some refusal) e = absurd (let no : status.Refused ≡ status.Ok = e in cc)
 

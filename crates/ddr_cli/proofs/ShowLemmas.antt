@@ -11,44 +11,37 @@ use Rattle.ddr_text.specs.declared.opening.Opening.{Opening}
 use Rattle.ddr_text.specs.declared.opening.Opening.TheVariants.{Accepted, Refused as RefusedOpening}
 use Rattle.speed_bin.specs.declared.header.Header.{Header}
 use Rattle.speed_bin.specs.Header.{shape_of}
-use Rattle.log_auditor.specs.Findings.{ReadsAll}
 use Rattle.log_auditor.specs.Reading.{Place}
 use Rattle.log_auditor.specs.declared.report_reader.Stage.TheVariants.{Body}
-use Rattle.ddr_cli.specs.Output.{AnswersAs, IsOutputBehind, Output, Refuses, refused_opening}
+use Rattle.ddr_text.specs.Outcome.{AnswersAs, Outcome, RefusesLine, refused_opening}
+use Rattle.ddr_cli.specs.Behind.{IsOutcomeBehind}
 use Rattle.ddr_cli.specs.Shown.{IsShown, shown, shown_in, shown_line}
-use Rattle.ddr_cli.proofs.OutputLemmas.{answers_behind, answers_nothing, answers_refused, reads_behind}
+use Rattle.ddr_text.proofs.Outcomes.{answers-behind, answers-nothing, answers-refused, reads-opened}
 
-reads_from : (old mid new : Option (List ℕ)) (held : List ℕ) (h : Header) (text : List ℕ) → IsOpening (next_bytes [] old) (next_bytes held mid) (Accepted h text) → ReadsAll mid new → ReadsAll old new
-reads_from None mid new held h text opened all = tt
-reads_from (Some bytes) mid new held h text opened all = reads_behind (Some bytes) mid new held opened.0 opened.2 all
-
-shown_accepted : (old mid : Option (List ℕ)) (h : Header) (text : List ℕ) (first : Place) (s : Output) → first.shape ≡ shape_of h → first.stage ≡ Body → first.number ≡ 1 → IsOpening (next_bytes [] old) mid (Accepted h text) → IsOutputBehind shown_line first mid s → IsShown old s
+shown_accepted : (old mid : Option (List ℕ)) (h : Header) (text : List ℕ) (first : Place) (s : Outcome) → first.shape ≡ shape_of h → first.stage ≡ Body → first.number ≡ 1 → IsOpening (next_bytes [] old) mid (Accepted h text) → IsOutcomeBehind shown_line first mid s → IsShown old s
 shown_accepted None mid h text first s a b c opened is = tt
 shown_accepted (Some bytes) mid h text first s a b c opened is =
-    let rest : IsOutputBehind shown_line first (Some opened.0) s = subst (λ (o : Option (List ℕ)). IsOutputBehind shown_line first o s) opened.2 is in
+    let rest : IsOutcomeBehind shown_line first (Some opened.0) s = subst (λ (o : Option (List ℕ)). IsOutcomeBehind shown_line first o s) opened.2 is in
     ap shown_in opened.1 ∙ rw (← a, ← b, ← c) rest
 
 pub shows_accepted : (answer : Status) (old mid new before after : Option (List ℕ)) (held : List ℕ) (h : Header) (text : List ℕ) (first : Place) → first.shape ≡ shape_of h → first.stage ≡ Body → first.number ≡ 1 → IsOpening (next_bytes [] old) (next_bytes held mid) (Accepted h text)
-    → AnswersAs (IsOutputBehind shown_line first (next_bytes held mid)) answer mid new before after → AnswersAs (IsShown old) answer old new before after
+    → AnswersAs (IsOutcomeBehind shown_line first (next_bytes held mid)) answer mid new before after → AnswersAs (IsShown old) answer old new before after
 shows_accepted answer old mid new before after held h text first a b c opened answers =
-    answers_behind (IsOutputBehind shown_line first (next_bytes held mid)) (IsShown old) [] answer old mid new before before after (Appends-nil before) (λ s is. shown_accepted old (next_bytes held mid) h text first s a b c opened is) (reads_from old mid new held h text opened) answers
+    answers-behind (IsOutcomeBehind shown_line first (next_bytes held mid)) (IsShown old) [] answer old mid new before before after (Appends-nil before) (λ s is. shown_accepted old (next_bytes held mid) h text first s a b c opened is) (reads-opened old mid new held h text opened) answers
 
 shown_refused : (old mid : Option (List ℕ)) (reason : ℕ) → IsOpening (next_bytes [] old) mid (RefusedOpening reason) → IsShown old (refused_opening reason)
 shown_refused None mid reason opened = tt
 shown_refused (Some bytes) mid reason opened = ap shown_in opened
 
-pub shows_refused : (answer : Status) (old mid new before after : Option (List ℕ)) (reason : ℕ) → IsOpening (next_bytes [] old) mid (RefusedOpening reason) → Refuses answer 0 reason before after → AnswersAs (IsShown old) answer old new before after
-shows_refused answer old mid new before after reason opened refuses = answers_refused (IsShown old) answer reason old new before after (shown_refused old mid reason opened) refuses
+pub shows_refused : (answer : Status) (old mid new before after : Option (List ℕ)) (reason : ℕ) → IsOpening (next_bytes [] old) mid (RefusedOpening reason) → RefusesLine answer 0 reason before after → AnswersAs (IsShown old) answer old new before after
+shows_refused answer old mid new before after reason opened refuses = answers-refused (IsShown old) answer reason old new before after (shown_refused old mid reason opened) refuses
 
-some_shown : (old : Option (List ℕ)) → (s : Output) × IsShown old s
+some_shown : (old : Option (List ℕ)) → (s : Outcome) × IsShown old s
 some_shown None = (record { text = []; status = status.Ok }, tt)
 some_shown (Some bytes) = (shown bytes, refl)
 
 pub shows_unread : (old new before : Option (List ℕ)) → AnswersAs (IsShown old) status.ReadFault old new before before
-shows_unread old new before = let s = some_shown old in answers_nothing (IsShown old) s.0 before s.1
+shows_unread old new before = let s = some_shown old in answers-nothing (IsShown old) s.0 before s.1
 
 pub shows_no_memory : (old new before : Option (List ℕ)) → AnswersAs (IsShown old) status.OutOfMemory old new before before
-shows_no_memory old new before = let s = some_shown old in answers_nothing (IsShown old) s.0 before s.1
-
-pub opened_at : (reader : ReaderOfLines) (left mid : Option (List ℕ)) (opening other : Opening) → reader ≡ record { held = []; line = []; last = TextAnswer } → opening ≡ other → IsOpening (next_bytes reader.held left) mid opening → IsOpening (next_bytes [] left) mid other
-opened_at reader left mid opening other first is opened = subst (λ (o : Opening). IsOpening (next_bytes [] left) mid o) is (subst (λ (r : ReaderOfLines). IsOpening (next_bytes r.held left) mid opening) first opened)
+shows_no_memory old new before = let s = some_shown old in answers-nothing (IsShown old) s.0 before s.1

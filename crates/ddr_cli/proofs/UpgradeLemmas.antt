@@ -20,9 +20,13 @@ use Rattle.speed_bin.specs.declared.header.Header.{Header}
 use Rattle.speed_bin.specs.Header.{shape_of}
 use Rattle.log_auditor.specs.Reading.{Place, lines_in, lines_left}
 use Rattle.log_auditor.specs.declared.report_reader.Stage.TheVariants.{Body}
-use Rattle.ddr_cli.specs.Output.{AnswersAs, IsOutputBehind, Output, Refuses, WriteCause, output_behind, refused_opening}
+use Rattle.ddr_text.specs.Outcome.{AnswersAs, Outcome, RefusesLine, refused_opening}
+use Rattle.ddr_text.specs.Stop.{WriteCause, status_of}
+use Rattle.ddr_text.specs.declared.stop.Stop.{Stop}
+use Rattle.ddr_cli.specs.Behind.{IsOutcomeBehind, outcome_behind}
 use Rattle.ddr_cli.specs.Upgraded.{IsUpgraded, newer, newer_heading, upgraded}
-use Rattle.ddr_cli.proofs.OutputLemmas.{answers_behind, answers_cut, answers_nothing, answers_refused, prefix_behind, prefix_longer, reads_behind}
+use Rattle.ddr_text.proofs.Outcomes.{answers-behind, answers-cut, answers-nothing, answers-refused, reads-behind}
+use Rattle.ddr_text.proofs.Prefixes.{prefix-behind, prefix-longer}
 use Rattle.ddr_cli.proofs.UpgradedAs.{upgraded-refused, upgraded-written}
 
 -- ---- The separator
@@ -50,7 +54,7 @@ newer-else piece line is e = go (bytes_eq line (codes "---")) refl
 pub heading-cut : {T E : Type 0} (r : Result T E) (before middle after : Option (List ℕ)) (text piece separator : List ℕ) → Appends before middle text → piece ≡ separator
     → IfErr r (λ stop. AppendsPrefix middle after piece) → IfErr r (λ stop. AppendsPrefix before after (text ++ separator))
 heading-cut (Ok x) before middle after text piece separator whole is cut = tt
-heading-cut (Err stop) before middle after text piece separator whole is cut = prefix_behind before middle after text separator whole (subst (AppendsPrefix middle after) is cut)
+heading-cut (Err stop) before middle after text piece separator whole is cut = prefix-behind before middle after text separator whole (subst (AppendsPrefix middle after) is cut)
 
 -- ---- An opening that is accepted
 
@@ -61,38 +65,38 @@ front text line = text ++ with_feed (newer line)
 newer-front : (heading : Heading) (h : Header) (text separator : List ℕ) → HasParts heading h text separator → opening_text (newer_heading heading) ≡ front text heading.separator
 newer-front heading h text separator parts = ap (λ t. t ++ with_feed (newer heading.separator)) (sym parts.text_is)
 
-upgrades-known : ReportLines → (bytes : List ℕ) (left : Option (List ℕ)) (heading : Heading) (h : Header) (text separator : List ℕ) (first : Place) (s : Output) → first.shape ≡ shape_of h → first.stage ≡ Body → first.number ≡ 1
-    → HasParts heading h text separator → heading_in [] (parts_of bytes) ≡ Ok heading → left ≡ Some (behind (opening_text heading) bytes) → IsOutputBehind spelled first left s
+upgrades-known : ReportLines → (bytes : List ℕ) (left : Option (List ℕ)) (heading : Heading) (h : Header) (text separator : List ℕ) (first : Place) (s : Outcome) → first.shape ≡ shape_of h → first.stage ≡ Body → first.number ≡ 1
+    → HasParts heading h text separator → heading_in [] (parts_of bytes) ≡ Ok heading → left ≡ Some (behind (opening_text heading) bytes) → IsOutcomeBehind spelled first left s
     → upgraded bytes ≡ record { text = front text heading.separator ++ s.text; status = s.status }
 upgrades-known laws bytes left heading h text separator first s a b c parts found is known =
     let rest = behind (opening_text heading) bytes in
-    let written : output_behind spelled (lines_left first rest) ≡ s = subst (λ (o : Option (List ℕ)). IsOutputBehind spelled first o s) is known in
-    let own : output_behind spelled (lines_in (shape_of h) Body 1 (parts_of rest)) ≡ s = rw (← a, ← b, ← c) written in
+    let written : outcome_behind spelled (lines_left first rest) ≡ s = subst (λ (o : Option (List ℕ)). IsOutcomeBehind spelled first o s) is known in
+    let own : outcome_behind spelled (lines_in (shape_of h) Body 1 (parts_of rest)) ≡ s = rw (← a, ← b, ← c) written in
     upgraded-written laws bytes heading h rest found parts.stated refl
-    ∙ ap (λ (o : Output). record { text = opening_text (newer_heading heading) ++ o.text; status = o.status }) own
+    ∙ ap (λ (o : Outcome). record { text = opening_text (newer_heading heading) ++ o.text; status = o.status }) own
     ∙ ap (λ t. record { text = t ++ s.text; status = s.status }) (newer-front heading h text separator parts)
 
 pub upgrades-accepted : ReportLines → (answer : Status) (old mid new before middle after : Option (List ℕ)) (held : List ℕ) (h : Header) (text separator : List ℕ) (first : Place) → first.shape ≡ shape_of h → first.stage ≡ Body → first.number ≡ 1
     → IsApart (next_bytes [] old) (next_bytes held mid) (Accepted h text separator) → (heading : Heading) × HasParts heading h text separator
     → ((line : List ℕ) → separator ≡ with_feed line → Appends before middle (front text line))
-    → AnswersAs (IsOutputBehind spelled first (next_bytes held mid)) answer mid new middle after → AnswersAs (IsUpgraded old) answer old new before after
+    → AnswersAs (IsOutcomeBehind spelled first (next_bytes held mid)) answer mid new middle after → AnswersAs (IsUpgraded old) answer old new before after
 upgrades-accepted laws answer None mid new before middle after held h text separator first a b c opened (heading, parts) put answers =
-    answers_behind (IsOutputBehind spelled first (next_bytes held mid)) (IsUpgraded None) (front text heading.separator) answer None mid new before middle after (put heading.separator parts.separator_is) (λ s is. tt) (λ all. tt) answers
+    answers-behind (IsOutcomeBehind spelled first (next_bytes held mid)) (IsUpgraded None) (front text heading.separator) answer None mid new before middle after (put heading.separator parts.separator_is) (λ s is. tt) (λ all. tt) answers
 upgrades-accepted laws answer (Some bytes) mid new before middle after held h text separator first a b c (heading, parts, found, left) known put answers =
-    answers_behind (IsOutputBehind spelled first (next_bytes held mid)) (IsUpgraded (Some bytes)) (front text heading.separator) answer (Some bytes) mid new before middle after (put heading.separator parts.separator_is)
-    (λ s is. upgrades-known laws bytes (next_bytes held mid) heading h text separator first s a b c parts found left is) (reads_behind (Some bytes) mid new held (behind (opening_text heading) bytes) left) answers
+    answers-behind (IsOutcomeBehind spelled first (next_bytes held mid)) (IsUpgraded (Some bytes)) (front text heading.separator) answer (Some bytes) mid new before middle after (put heading.separator parts.separator_is)
+    (λ s is. upgrades-known laws bytes (next_bytes held mid) heading h text separator first s a b c parts found left is) (reads-behind (Some bytes) mid new held (behind (opening_text heading) bytes) left) answers
 
 -- a write that stopped within the heading
-pub upgrades-cut : ReportLines → (stop : Status) (faults later : ℕ) (old new mid before after : Option (List ℕ)) (h : Header) (text separator : List ℕ) → IsApart (next_bytes [] old) mid (Accepted h text separator)
-    → (heading : Heading) × HasParts heading h text separator → ((line : List ℕ) → separator ≡ with_feed line → AppendsPrefix before after (front text line)) → WriteCause faults later stop → AnswersAs (IsUpgraded old) stop old new before after
+pub upgrades-cut : ReportLines → (stop : Stop) (faults later : ℕ) (old new mid before after : Option (List ℕ)) (h : Header) (text separator : List ℕ) → IsApart (next_bytes [] old) mid (Accepted h text separator)
+    → (heading : Heading) × HasParts heading h text separator → ((line : List ℕ) → separator ≡ with_feed line → AppendsPrefix before after (front text line)) → WriteCause faults later stop → AnswersAs (IsUpgraded old) (status_of stop) old new before after
 upgrades-cut laws stop faults later None new mid before after h text separator opened (heading, parts) cut cause =
-    answers_cut (IsUpgraded None) (record { text = front text heading.separator; status = status.Ok }) stop faults later None new before after tt (cut heading.separator parts.separator_is) cause
+    answers-cut (IsUpgraded None) (record { text = front text heading.separator; status = status.Ok }) stop faults later None new before after tt (cut heading.separator parts.separator_is) cause
 upgrades-cut laws stop faults later (Some bytes) new mid before after h text separator (heading, parts, found, left) known cut cause =
     let rest = behind (opening_text heading) bytes in
-    let more = (output_behind spelled (lines_in (shape_of h) Body 1 (parts_of rest))).text in
-    let is : (upgraded bytes).text ≡ front text heading.separator ++ more = ap (λ (o : Output). o.text) (upgraded-written laws bytes heading h rest found parts.stated refl) ∙ ap (λ t. t ++ more) (newer-front heading h text separator parts) in
-    answers_cut (IsUpgraded (Some bytes)) (upgraded bytes) stop faults later (Some bytes) new before after refl
-    (subst (AppendsPrefix before after) (sym is) (prefix_longer before after (front text heading.separator) more (cut heading.separator parts.separator_is))) cause
+    let more = (outcome_behind spelled (lines_in (shape_of h) Body 1 (parts_of rest))).text in
+    let is : (upgraded bytes).text ≡ front text heading.separator ++ more = ap (λ (o : Outcome). o.text) (upgraded-written laws bytes heading h rest found parts.stated refl) ∙ ap (λ t. t ++ more) (newer-front heading h text separator parts) in
+    answers-cut (IsUpgraded (Some bytes)) (upgraded bytes) stop faults later (Some bytes) new before after refl
+    (subst (AppendsPrefix before after) (sym is) (prefix-longer before after (front text heading.separator) more (cut heading.separator parts.separator_is))) cause
 
 -- ---- Other openings
 
@@ -103,12 +107,12 @@ refused-known : (old mid : Option (List ℕ)) (reason : ℕ) → IsApart (next_b
 refused-known None mid reason opened = tt
 refused-known (Some bytes) mid reason opened = upgraded-refused bytes reason opened
 
-pub upgrades-refused : (answer : Status) (old mid new before after : Option (List ℕ)) (reason : ℕ) → IsApart (next_bytes [] old) mid (Refused reason) → Refuses answer 0 reason before after → AnswersAs (IsUpgraded old) answer old new before after
-upgrades-refused answer old mid new before after reason opened refuses = answers_refused (IsUpgraded old) answer reason old new before after (refused-known old mid reason opened) refuses
+pub upgrades-refused : (answer : Status) (old mid new before after : Option (List ℕ)) (reason : ℕ) → IsApart (next_bytes [] old) mid (Refused reason) → RefusesLine answer 0 reason before after → AnswersAs (IsUpgraded old) answer old new before after
+upgrades-refused answer old mid new before after reason opened refuses = answers-refused (IsUpgraded old) answer reason old new before after (refused-known old mid reason opened) refuses
 
-some-upgraded : (old : Option (List ℕ)) → (s : Output) × IsUpgraded old s
+some-upgraded : (old : Option (List ℕ)) → (s : Outcome) × IsUpgraded old s
 some-upgraded None = (record { text = []; status = status.Ok }, tt)
 some-upgraded (Some bytes) = (upgraded bytes, refl)
 
-pub upgrades-nothing : (old before : Option (List ℕ)) → (it : Output) × IsUpgraded old it × AppendsPrefix before before it.text
-upgrades-nothing old before = let s = some-upgraded old in answers_nothing (IsUpgraded old) s.0 before s.1
+pub upgrades-nothing : (old before : Option (List ℕ)) → (it : Outcome) × IsUpgraded old it × AppendsPrefix before before it.text
+upgrades-nothing old before = let s = some-upgraded old in answers-nothing (IsUpgraded old) s.0 before s.1

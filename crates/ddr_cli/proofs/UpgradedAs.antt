@@ -9,7 +9,8 @@ use Rattle.ddr_text.specs.Opening.{Heading, Accepts, Refuses, heading_in, openin
 use Rattle.ddr_text.specs.Spelling.{spelled}
 use Rattle.log_auditor.specs.Reading.{Lines, lines_in}
 use Rattle.log_auditor.specs.declared.report_reader.Stage.TheVariants.{Body}
-use Rattle.ddr_cli.specs.Output.{Output, output_behind, refused_opening, status_of}
+use Rattle.ddr_text.specs.Outcome.{Outcome, refusal_status, refused_opening}
+use Rattle.ddr_cli.specs.Behind.{outcome_behind}
 use Rattle.ddr_cli.specs.Upgraded.{newer_heading, upgraded, upgraded_from, upgraded_of, upgraded_with}
 use Rattle.ddr_cli.proofs.Copied.{kept-is}
 
@@ -24,12 +25,12 @@ upgraded-with bytes heading h rest found stated left =
 -- it is the header text, the newer separator, and the lines written again
 pub upgraded-written : ReportLines → (bytes : List ℕ) (heading : Heading) (h : Header) (rest : List ℕ) → heading_in [] (parts_of bytes) ≡ Ok heading → header_stated heading.version heading.text ≡ Ok h → behind (opening_text heading) bytes ≡ rest
     → upgraded bytes ≡ record {
-      text = opening_text (newer_heading heading) ++ (output_behind spelled (lines_in (shape_of h) Body 1 (parts_of rest))).text;
-      status = (output_behind spelled (lines_in (shape_of h) Body 1 (parts_of rest))).status;
+      text = opening_text (newer_heading heading) ++ (outcome_behind spelled (lines_in (shape_of h) Body 1 (parts_of rest))).text;
+      status = (outcome_behind spelled (lines_in (shape_of h) Body 1 (parts_of rest))).status;
     }
 upgraded-written laws bytes heading h rest found stated left =
     upgraded-with bytes heading h rest found stated left
-    ∙ ap (λ t. record { text = opening_text (newer_heading heading) ++ t; status = status_of (lines_in (shape_of h) Body 1 (parts_of rest)).refusal }) (kept-is laws (shape_of h) Body rest)
+    ∙ ap (λ t. record { text = opening_text (newer_heading heading) ++ t; status = refusal_status (lines_in (shape_of h) Body 1 (parts_of rest)).refusal }) (kept-is laws (shape_of h) Body rest)
 
 -- an opening that is refused
 pub upgraded-refused : (bytes : List ℕ) (reason : ℕ) → opening_of bytes ≡ Refuses reason → upgraded bytes ≡ refused_opening reason

@@ -1,7 +1,7 @@
 pub mod AtEnd
 pub mod Fault
 pub mod Made
-pub mod Output
+pub mod Behind
 pub mod Shown
 pub mod Upgraded
 pub mod Wording

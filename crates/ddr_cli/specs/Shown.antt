@@ -12,7 +12,8 @@ use Rattle.ddr_text.specs.declared.lines.ReportLine.TheVariants.{Issued, Value, 
 use Rattle.speed_bin.specs.Header.{shape_of}
 use Rattle.log_auditor.specs.Reading.{lines_in}
 use Rattle.log_auditor.specs.declared.report_reader.Stage.TheVariants.{Body}
-use Rattle.ddr_cli.specs.Output.{AnswersAs, Output, output_behind, refused_opening}
+use Rattle.ddr_text.specs.Outcome.{AnswersAs, Outcome, refused_opening}
+use Rattle.ddr_cli.specs.Behind.{outcome_behind}
 
 -- ---- Commands
 
@@ -46,16 +47,16 @@ shown_line (Refused line reason) = []
 
 -- ---- Reports
 
-abbrev pub shown_in : Opens → Output
-shown_in (Accepts h text rest) = output_behind shown_line (lines_in (shape_of h) Body 1 (parts_of rest))
+abbrev pub shown_in : Opens → Outcome
+shown_in (Accepts h text rest) = outcome_behind shown_line (lines_in (shape_of h) Body 1 (parts_of rest))
 shown_in (RefusesOpening reason) = refused_opening reason
 
 -- what is shown of the bytes of a report
-abbrev pub shown : List ℕ → Output
+abbrev pub shown : List ℕ → Outcome
 shown bytes = shown_in (opening_of bytes)
 
 -- that is what is shown of the bytes, where they are known
-abbrev pub IsShown : Option (List ℕ) → Output → Type 0
+abbrev pub IsShown : Option (List ℕ) → Outcome → Type 0
 IsShown None it = ⊤
 IsShown (Some bytes) it = shown bytes ≡ it
 

@@ -12,7 +12,7 @@ use Rattle.ddr_text.specs.Opening.{Heading, heading_in, opening_text, behind, pa
 use Rattle.ddr_text.specs.ReportParts.{Refusal}
 use Rattle.log_auditor.specs.Reading.{Lines, lines_in}
 use Rattle.log_auditor.specs.declared.report_reader.Stage.TheVariants.{Body}
-use Rattle.ddr_cli.specs.Output.{AnswersAs, Output, refusal_text, refused_opening, status_of}
+use Rattle.ddr_text.specs.Outcome.{AnswersAs, Outcome, refusal_status, refusal_text, refused_opening}
 
 -- ---- Bytes
 
@@ -32,19 +32,19 @@ kept_of rest lines (Some refusal) = flat_map with_feed (take lines (parts_of res
 abbrev pub kept : List ℕ → Lines → List ℕ
 kept rest found = kept_of rest (length found.lines) found.refusal ++ refusal_text found.refusal
 
-abbrev pub upgraded_of : Heading → List ℕ → Lines → Output
-upgraded_of heading rest found = record { text = opening_text (newer_heading heading) ++ kept rest found; status = status_of found.refusal }
+abbrev pub upgraded_of : Heading → List ℕ → Lines → Outcome
+upgraded_of heading rest found = record { text = opening_text (newer_heading heading) ++ kept rest found; status = refusal_status found.refusal }
 
-abbrev pub upgraded_with : Heading → List ℕ → Result Header HeaderFault → Output
+abbrev pub upgraded_with : Heading → List ℕ → Result Header HeaderFault → Outcome
 upgraded_with heading rest (Ok h) = upgraded_of heading rest (lines_in (shape_of h) Body 1 (parts_of rest))
 upgraded_with heading rest (Err fault) = refused_opening (reason_of fault)
 
-abbrev pub upgraded_from : List ℕ → Result Heading ℕ → Output
+abbrev pub upgraded_from : List ℕ → Result Heading ℕ → Outcome
 upgraded_from bytes (Ok heading) = upgraded_with heading (behind (opening_text heading) bytes) (header_stated heading.version heading.text)
 upgraded_from bytes (Err reason) = refused_opening reason
 
 -- the bytes of a report in version 2, and the status of the one that writes them
-abbrev pub upgraded : List ℕ → Output
+abbrev pub upgraded : List ℕ → Outcome
 upgraded bytes = upgraded_from bytes (heading_in [] (parts_of bytes))
 
 -- ---- Well formed bytes
@@ -59,7 +59,7 @@ pub record IsWellFormed (bytes : List ℕ) (heading : Heading) (h : Header) (res
 -- ---- Answers
 
 -- these are the bytes in version 2 and the status, where the bytes are known
-abbrev pub IsUpgraded : Option (List ℕ) → Output → Type 0
+abbrev pub IsUpgraded : Option (List ℕ) → Outcome → Type 0
 IsUpgraded None it = ⊤
 IsUpgraded (Some bytes) it = upgraded bytes ≡ it
 

@@ -3,9 +3,9 @@ ghost use Rattle.std.specs.Prelude.{◌≡◌, ◌≢◌};
 ghost use Rattle.ddr_io.specs.Faults.{Rose};
 ghost use Rattle.ddr_cli.specs.Shown.{ShowAnswers};
 
-use crate::writing::{Wording, refuse, write_behind};
+use crate::writing::{Wording, write_behind};
 use ddr_io::{LineReader, Sink, Source, Status};
-use ddr_text::{Opening, open_job};
+use ddr_text::{Opening, open_job, refuse};
 use log_auditor::ReportReader;
 use std::alloc::Global;
 

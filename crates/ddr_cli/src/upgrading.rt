@@ -5,12 +5,12 @@ ghost use Rattle.std.specs.Str.{bytes_eq};
 ghost use Rattle.ddr_io.specs.Faults.{Rose};
 ghost use Rattle.ddr_io.specs.Sink.{AppendsPrefix};
 ghost use Rattle.ddr_text.specs.Opening.{with_feed};
-ghost use Rattle.ddr_cli.specs.Output.{WriteCause};
+ghost use Rattle.ddr_text.specs.Stop.{WriteCause};
 ghost use Rattle.ddr_cli.specs.Upgraded.{UpgradeAnswers, newer};
 
-use crate::writing::{Wording, put, refuse, write_behind};
+use crate::writing::{Wording, write_behind};
 use ddr_io::{LineReader, Sink, Source, Status};
-use ddr_text::{Apart, HeaderText, open_apart, report_lines};
+use ddr_text::{Apart, HeaderText, Stop, open_apart, put, refuse, report_lines};
 use log_auditor::ReportReader;
 use std::alloc::Global;
 
@@ -35,7 +35,7 @@ pub fn upgrade<S: Source, K: Sink>(alloc: Global, source: &mut S, sink: &mut K) 
             let lines = ReportReader::new(reader, header.geometry());
             match put_heading(&text, &separator, sink) {
                 Ok(()) => write_behind(lines, Wording::Spelled, source, sink),
-                Err(stop) => stop,
+                Err(stop) => stop.status(),
             }
         }
         Ok(Apart::Refused(reason)) => refuse(0, reason, sink),
@@ -49,7 +49,7 @@ fn put_heading<K: Sink>(
     text: &HeaderText,
     separator: &HeaderText,
     sink: &mut K,
-) -> Result<(), Status>
+) -> Result<(), Stop>
     requires { (line : List ℕ) × (separator.now ≡ with_feed line) }
     ensures whole { (line : List ℕ) → separator.now ≡ with_feed line → OnOk result (Appends (K.written sink.old) (K.written sink.new) (text.now ++ with_feed (newer line))) }
     ensures cut { (line : List ℕ) → separator.now ≡ with_feed line → IfErr result (λ stop. AppendsPrefix (K.written sink.old) (K.written sink.new) (text.now ++ with_feed (newer line))) }

@@ -1,16 +1,18 @@
 //! Writing the lines of a report again, one after another.
-ghost use Rattle.std.specs.Prelude.{◌≡◌, ◌≢◌, ◌<◌, ◌≤◌, [], OnOk, IfErr, length};
+ghost use Rattle.std.specs.Prelude.{◌≡◌, ◌≢◌, ◌≤◌, [], OnOk, IfErr};
 ghost use Rattle.std.specs.Io.KnownBytes.{Appends};
 ghost use Rattle.ddr_io.specs.Faults.{Rose};
 ghost use Rattle.ddr_io.specs.Line.{next_bytes};
 ghost use Rattle.ddr_io.specs.Sink.{AppendsPrefix};
-ghost use Rattle.ddr_cli.specs.Output.{AnswersAs, IsOutputBehind, Refuses, WriteCause};
+ghost use Rattle.ddr_text.specs.Outcome.{AnswersAs, RefusesLine};
+ghost use Rattle.ddr_text.specs.Stop.{WriteCause};
+ghost use Rattle.ddr_cli.specs.Behind.{IsOutcomeBehind};
 ghost use Rattle.ddr_cli.specs.Wording.{written_as};
 
 use crate::shown::show_line;
 use arrayvec::ArrayVec;
-use ddr_io::{Line, Put, Sink, Source, Status, put_all};
-use ddr_text::{ReportLine, write_report_line};
+use ddr_io::{Line, Sink, Source, Status};
+use ddr_text::{ReportLine, Stop, put, refuse, write_report_line};
 use log_auditor::{Next, ReportReader};
 
 /// How a line of a report is written again.
@@ -30,18 +32,19 @@ pub(crate) fn write_behind<S: Source, K: Sink>(
     sink: &mut K,
 ) -> Status
     requires { lines.reader.last ≡ Line.Text }
-    ensures written { AnswersAs (IsOutputBehind (written_as wording) lines (next_bytes lines.reader.held (S.left source.old))) result (S.left source.old) (S.left source.new) (K.written sink.old) (K.written sink.new) }
+    ensures written { AnswersAs (IsOutcomeBehind (written_as wording) lines (next_bytes lines.reader.held (S.left source.old))) result (S.left source.old) (S.left source.new) (K.written sink.old) (K.written sink.new) }
     ensures read { result ≡ Status.ReadFault → Rose (S.faults source.old) (S.faults source.new) }
     ensures write { result ≡ Status.WriteFault → Rose (K.faults sink.old) (K.faults sink.new) }
     ensures later { S.faults source.old ≤ S.faults source.new }
     ensures reads_kept { result ≢ Status.ReadFault → S.faults source.new ≡ S.faults source.old }
     ensures writes_kept { result ≢ Status.WriteFault → K.faults sink.new ≡ K.faults sink.old }
+    ensures broken { result ≢ Status.Broken }
 {
     'each: loop {
         match lines.next(source) {
-            Next::Line(line) => match put_line(&line, wording, sink) {
+            Next::Line(line) => match put_worded(&line, wording, sink) {
                 Ok(()) => {}
-                Err(stop) => return stop,
+                Err(stop) => return stop.status(),
             },
             Next::End => return Status::Ok,
             Next::Refused(number, reason) => return refuse(number, reason, sink),
@@ -51,7 +54,7 @@ pub(crate) fn write_behind<S: Source, K: Sink>(
 }
 
 // Writes a line again.
-fn put_line<K: Sink>(line: &ReportLine, wording: Wording, sink: &mut K) -> Result<(), Status>
+fn put_worded<K: Sink>(line: &ReportLine, wording: Wording, sink: &mut K) -> Result<(), Stop>
     ensures whole { OnOk result (Appends (K.written sink.old) (K.written sink.new) (written_as wording line.now)) }
     ensures cut { IfErr result (λ stop. AppendsPrefix (K.written sink.old) (K.written sink.new) (written_as wording line.now)) }
     ensures cause { IfErr result (WriteCause (K.faults sink.old) (K.faults sink.new)) }
@@ -70,36 +73,5 @@ fn word(line: &ReportLine, wording: Wording, out: &mut ArrayVec<u8, 512>)
     match wording {
         Wording::Shown => show_line(line, out),
         Wording::Spelled => write_report_line(line, out),
-    }
-}
-
-/// Writes the X line: the line with this number is refused for this reason.
-pub(crate) fn refuse<K: Sink>(number: u64, reason: u8, sink: &mut K) -> Status
-    ensures written { Refuses result number reason (K.written sink.old) (K.written sink.new) }
-    ensures write { result ≡ Status.WriteFault → Rose (K.faults sink.old) (K.faults sink.new) }
-    ensures writes_kept { result ≢ Status.WriteFault → K.faults sink.new ≡ K.faults sink.old }
-{
-    let mut text = ArrayVec::new();
-    write_report_line(&ReportLine::Refused(number, reason), &mut text);
-    match put(&text, sink) {
-        Ok(()) => Status::Refused,
-        Err(stop) => stop,
-    }
-}
-
-/// Writes the piece. At `Err` a prefix of it was written.
-pub(crate) fn put<K: Sink>(piece: &[u8], sink: &mut K) -> Result<(), Status>
-    ensures whole { OnOk result (Appends (K.written sink.old) (K.written sink.new) piece.now) }
-    ensures cut { IfErr result (λ stop. AppendsPrefix (K.written sink.old) (K.written sink.new) piece.now) }
-    ensures cause { IfErr result (WriteCause (K.faults sink.old) (K.faults sink.new)) }
-    ensures kept { OnOk result (K.faults sink.new ≡ K.faults sink.old) }
-{
-    if piece.is_empty() {
-        return Ok(());
-    }
-    match put_all(sink, piece) {
-        Put::Took(_) => Ok(()),
-        Put::Failed => Err(Status::WriteFault),
-        Put::NoMemory => Err(Status::OutOfMemory),
     }
 }

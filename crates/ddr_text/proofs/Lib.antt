@@ -17,3 +17,5 @@ pub mod Reopened
 pub mod Separators
 mod CheckNumbers
 mod Parted
+pub mod Prefixes
+pub mod Outcomes

@@ -14,3 +14,6 @@ pub mod Seen
 pub mod Opening
 pub mod Front
 pub mod Apart
+pub mod Stop
+pub mod Outcome
+pub mod Writing

@@ -10,17 +10,17 @@ pub record IsBankOf (g : Shape) (bank : Bank) : Type 0 where
   pub address : bank.address < 4
 
 -- the bank, the row and the column are those of the subchannel, and a register write has two bytes
-abbrev pub IsWithin : Shape → Command → Type 0
-IsWithin g (Act bank row) = IsBankOf g bank × (row < g.rows)
-IsWithin g (Rd bank column) = IsBankOf g bank × (column < 64)
-IsWithin g (Wr bank column) = IsBankOf g bank × (column < 64)
-IsWithin g (PrePb bank) = IsBankOf g bank
-IsWithin g (PreSb address) = address < 4
-IsWithin g PreAb = ⊤
-IsWithin g RefAb = ⊤
-IsWithin g (RefSb address) = address < 4
-IsWithin g RfmAb = ⊤
-IsWithin g (RfmSb address) = address < 4
-IsWithin g (Mrw write) = (write.address < 256) × (write.value < 256)
-IsWithin g Ecs = ⊤
-IsWithin g Nop = ⊤
+abbrev pub IsCommandOf : Shape → Command → Type 0
+IsCommandOf g (Act bank row) = IsBankOf g bank × (row < g.rows)
+IsCommandOf g (Rd bank column) = IsBankOf g bank × (column < 64)
+IsCommandOf g (Wr bank column) = IsBankOf g bank × (column < 64)
+IsCommandOf g (PrePb bank) = IsBankOf g bank
+IsCommandOf g (PreSb address) = address < 4
+IsCommandOf g PreAb = ⊤
+IsCommandOf g RefAb = ⊤
+IsCommandOf g (RefSb address) = address < 4
+IsCommandOf g RfmAb = ⊤
+IsCommandOf g (RfmSb address) = address < 4
+IsCommandOf g (Mrw write) = (write.address < 256) × (write.value < 256)
+IsCommandOf g Ecs = ⊤
+IsCommandOf g Nop = ⊤

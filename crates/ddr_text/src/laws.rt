@@ -6,6 +6,7 @@ ghost use Rattle.speed_bin.specs.declared.header.Header.{Header};
 ghost use Rattle.ddr_text.specs.Opening.{Accepts, opening_of};
 ghost use Rattle.ddr_text.specs.Parts.{LinesAreParts};
 ghost use Rattle.ddr_text.specs.ReportGrammar.{lower_bytes_of};
+ghost use Rattle.ddr_text.specs.Writing.{PiecesFollow};
 
 /// What comes next in some bytes, in words of their parts between line feeds.
 pub fn lines_are_parts()
@@ -22,4 +23,9 @@ pub fn opening_opens_again()
 pub fn hex_gives_bytes()
     ensures either { (field bytes : List ℕ) → decode_sized field 64 ≡ Ok bytes → IsBytes 64 bytes }
     ensures lower { (field bytes : List ℕ) → lower_bytes_of 64 field ≡ Ok bytes → IsBytes 64 bytes }
+{}
+
+/// Of pieces that are written one behind the other: what a prefix of one is to the whole.
+pub fn pieces_follow()
+    ensures { PiecesFollow }
 {}

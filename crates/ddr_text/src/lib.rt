@@ -1,4 +1,4 @@
-//! The lines of traces and reports, and the opening of a job.
+//! The lines of traces and reports, and the opening of a job; writing them into a sink.
 #![tactic(auto)]
 
 pub mod digits;
@@ -21,9 +21,13 @@ mod separator;
 mod spelling;
 #[cfg(test)]
 mod spelling_tests;
+mod stop;
 mod trace_line;
 #[cfg(test)]
 mod trace_line_tests;
+mod writing;
+#[cfg(test)]
+mod writing_tests;
 
 pub use fields::number_of;
 pub use header_text::HeaderText;
@@ -33,4 +37,6 @@ pub use pieces::{put_bytes, put_number, put_spaced, put_text};
 pub use reason::Reason;
 pub use report_line::{read_report_line, report_lines};
 pub use spelling::write_report_line;
+pub use stop::Stop;
 pub use trace_line::{read_trace_line, trace_grammar};
+pub use writing::{put, put_line, put_lines, put_opening, refuse};

@@ -3,25 +3,24 @@ use Rattle.std.proofs.Common.{◌≡◌, ◌∙◌, ◌<◌, ℕ, Option, Some, 
 use Rattle.std.specs.Io.KnownBytes.{Appends}
 use Rattle.ddr_io.specs.Faults.{Rose}
 use Rattle.ddr_io.specs.Line.{next_bytes}
-use Rattle.ddr_io.specs.Reading.{Reading as ReaderOfLines}
-use Rattle.ddr_io.specs.declared.line_reader.Line.TheVariants.{Text as TextAnswer}
 use Rattle.ddr_io.specs.Sink.{AppendsPrefix}
 use Rattle.ddr_io.specs.declared.status.Status.{Status}
 use Rattle.ddr_io.specs.declared.status.Status.TheVariants as status
-use Rattle.std.proofs.KnownBytes.{Appends-nil}
 use Rattle.ddr_text.specs.Opening.{IsOpening, Accepts, Refuses, opening_of, parts_of}
-use Rattle.ddr_text.specs.Spelling.{report_text, spelled}
+use Rattle.ddr_text.specs.Outcome.{ReadsAll}
+use Rattle.ddr_text.specs.Stop.{ReadCause, WriteCause, status_of as status_of_stop}
 use Rattle.ddr_text.specs.ReportParts.{Refusal}
 use Rattle.ddr_text.specs.declared.lines.ReportLine.{ReportLine}
-use Rattle.ddr_text.specs.declared.opening.Opening.{Opening}
 use Rattle.ddr_text.specs.declared.opening.Opening.TheVariants.{Accepted, Refused as RefusedOpening}
+use Rattle.ddr_text.specs.declared.stop.Stop.{Stop}
+use Rattle.ddr_text.specs.declared.stop.Stop.TheVariants.{ReadFault, WriteFault, OutOfMemory}
+use Rattle.ddr_text.proofs.Outcomes.{none-left, reads-opened}
+use Rattle.ddr_text.proofs.Prefixes.{no-prefix}
 use Rattle.speed_bin.specs.declared.header.Header.{Header}
 use Rattle.speed_bin.specs.Header.{shape_of}
-use Rattle.log_auditor.specs.Findings.{Answers, Finds, ReadsAll, breach_of, fine_or, finding_text, found_behind, found_in, refused_or, status_of}
-use Rattle.log_auditor.specs.Progress.{Audited, FindsBehind, IsWritten, LeftBehind, Reads, ReadsAllOf, StopCause, stop_status, with_lines}
+use Rattle.log_auditor.specs.Findings.{Answers, Finds, breach_of, fine_or, finding_text, found_behind, found_in, refused_or, status_of}
+use Rattle.log_auditor.specs.Progress.{Audited, FindsBehind, IsWritten, LeftBehind, Reads, ReadsAllOf, with_lines}
 use Rattle.log_auditor.specs.Reading.{IsStep, Lines, Place, lines_in, lines_left, refusal_at, with_line}
-use Rattle.log_auditor.specs.declared.audit_loop.Stop.{Stop}
-use Rattle.log_auditor.specs.declared.audit_loop.Stop.TheVariants.{ReadFault, OutOfMemory}
 use Rattle.log_auditor.specs.declared.auditor.Auditor.{Auditor}
 use Rattle.log_auditor.specs.declared.finding.Finding.{Finding}
 use Rattle.log_auditor.specs.declared.finding.Finding.TheVariants.{Fine, Broken, Refused}
@@ -54,15 +53,6 @@ found_refused h (Some bytes) (Some left) after lines old new number reason behin
     ap (found_behind h) (behind ∙ ap (with_lines lines) step)
     ∙ ap (λ r. refused_or r (fine_or (breach_of h (with_lines lines (record { lines = []; refusal = refusal_at number (Some reason) })).lines))) (with_lines_refusal lines (record { lines = []; refusal = refusal_at number (Some reason) }))
 
--- at the end nothing is left
-nothing_left : (held left : List ℕ) → held ++ left ≡ [] → left ≡ []
-nothing_left [] left e = e
-nothing_left (x ∷ held) left e = absurd cc
-
-empty_left : (held : List ℕ) (left : Option (List ℕ)) → next_bytes held left ≡ Some [] → left ≡ Some []
-empty_left held None e = absurd cc
-empty_left held (Some xs) e = let same : held ++ xs ≡ [] = cc in ap Some (nothing_left held xs same)
-
 all_of : (old new : Option (List ℕ)) (finding : Finding) → ReadsAll old new → ReadsAllOf old new finding
 all_of old new Fine all = all
 all_of old new (Broken line rule) all = all
@@ -72,7 +62,7 @@ all_of old new (Refused line reason) all = tt
 pub all_read : (h : Header) (source_old source_new now : Option (List ℕ)) (kept held : List ℕ) (lines : List ReportLine) (place new : Place) (finding : Finding) → LeftBehind h (next_bytes kept source_old) lines place now → IsStep place new now (next_bytes held source_new) End → ReadsAllOf source_old source_new finding
 all_read h None source_new now kept held lines place new finding behind step = all_of None source_new finding tt
 all_read h (Some bytes) source_new None kept held lines place new finding behind step = absurd behind
-all_read h (Some bytes) source_new (Some left) kept held lines place new finding behind step = all_of (Some bytes) source_new finding (empty_left held source_new step.0)
+all_read h (Some bytes) source_new (Some left) kept held lines place new finding behind step = all_of (Some bytes) source_new finding (none-left held source_new step.0)
 
 -- ---- The opening
 
@@ -88,22 +78,9 @@ pub finds_refused : (old mid : Option (List ℕ)) (reason : ℕ) → IsOpening (
 finds_refused None mid reason opened = tt
 finds_refused (Some bytes) mid reason opened = ap found_in opened
 
-reads_more : (old mid new : Option (List ℕ)) (bytes : List ℕ) → mid ≡ Some bytes → ReadsAll mid new → ReadsAll old new
-reads_more None mid new bytes e all = tt
-reads_more (Some xs) None new bytes e all = absurd cc
-reads_more (Some xs) (Some ys) new bytes e all = all
-
-known_source : (held : List ℕ) (left : Option (List ℕ)) (rest : List ℕ) → next_bytes held left ≡ Some rest → (bytes : List ℕ) × (left ≡ Some bytes)
-known_source held None rest e = absurd cc
-known_source held (Some bytes) rest e = (bytes, refl)
-
-reads_from : (old mid new : Option (List ℕ)) (held : List ℕ) (h : Header) (text : List ℕ) → IsOpening (next_bytes [] old) (next_bytes held mid) (Accepted h text) → ReadsAll mid new → ReadsAll old new
-reads_from None mid new held h text opened all = tt
-reads_from (Some bytes) mid new held h text opened all = let k = known_source held mid opened.0 opened.2 in reads_more (Some bytes) mid new k.0 k.1 all
-
 pub reads_accepted : (old mid new : Option (List ℕ)) (held : List ℕ) (h : Header) (text : List ℕ) (finding : Finding) → IsOpening (next_bytes [] old) (next_bytes held mid) (Accepted h text) → ReadsAllOf mid new finding → ReadsAllOf old new finding
-reads_accepted old mid new held h text Fine opened all = reads_from old mid new held h text opened all
-reads_accepted old mid new held h text (Broken line rule) opened all = reads_from old mid new held h text opened all
+reads_accepted old mid new held h text Fine opened all = reads-opened old mid new held h text opened all
+reads_accepted old mid new held h text (Broken line rule) opened all = reads-opened old mid new held h text opened all
 reads_accepted old mid new held h text (Refused line reason) opened all = tt
 
 -- ---- What is written
@@ -112,13 +89,6 @@ pub is_written : (answer : Status) (finding : Finding) (before after : Option (L
 is_written answer Fine before after is written = subst (λ (s : Status). IsWritten s Fine before after) (sym is) (refl, written)
 is_written answer (Broken line rule) before after is written = subst (λ (s : Status). IsWritten s (Broken line rule) before after) (sym is) (refl, written)
 is_written answer (Refused line reason) before after is written = subst (λ (s : Status). IsWritten s (Refused line reason) before after) (sym is) (refl, written)
-
--- the line of a finding is not empty
-pub some_text : (finding : Finding) → 0 < length (finding_text finding)
-unfolding finding_text spelled report_text
-some_text Fine = omega arith
-some_text (Broken line rule) = omega arith
-some_text (Refused line reason) = omega arith
 
 no_fault : (f : Finding) → status.ReadFault ≡ status_of f → ⊥
 no_fault Fine e = cc
@@ -153,19 +123,18 @@ any_finding : (old : Option (List ℕ)) → (finding : Finding) × Finds old fin
 any_finding None = (Fine, tt)
 any_finding (Some bytes) = (found_in (opening_of bytes), refl)
 
-pub answers_stopped : (stop : Stop) (old new before : Option (List ℕ)) → Answers (stop_status stop) old new before before
-answers_stopped ReadFault old new before = let f = any_finding old in (f.0, f.1, (0, omega arith, Appends-nil before))
-answers_stopped OutOfMemory old new before = let f = any_finding old in (f.0, f.1, (0, omega arith, Appends-nil before))
+pub answers_stopped : (stop : Stop) (faults later : ℕ) (old new before : Option (List ℕ)) → ReadCause faults later stop → Answers (status_of_stop stop) old new before before
+answers_stopped ReadFault faults later old new before cause = let f = any_finding old in (f.0, f.1, no-prefix before (finding_text f.0))
+answers_stopped WriteFault faults later old new before cause = absurd cause
+answers_stopped OutOfMemory faults later old new before cause = let f = any_finding old in (f.0, f.1, no-prefix before (finding_text f.0))
 
 pub map_ok : {A E : Type 0} (r : Result A E) (P Q : A → Type 0) → ((x : A) → P x → Q x) → IfOk r P → IfOk r Q
 map_ok (Ok x) P Q f h = f x h
 map_ok (Err e) P Q f h = tt
 
-pub opened_at : (reader : ReaderOfLines) (left mid : Option (List ℕ)) (opening other : Opening) → reader ≡ record { held = []; line = []; last = TextAnswer } → opening ≡ other → IsOpening (next_bytes reader.held left) mid opening → IsOpening (next_bytes [] left) mid other
-opened_at reader left mid opening other first is opened = subst (λ (o : Opening). IsOpening (next_bytes [] left) mid o) is (subst (λ (r : ReaderOfLines). IsOpening (next_bytes r.held left) mid opening) first opened)
-
-pub stopped_read : (stop : Stop) (before after : ℕ) → StopCause before after stop → stop_status stop ≡ status.ReadFault → Rose before after
+pub stopped_read : (stop : Stop) (before after : ℕ) → ReadCause before after stop → status_of_stop stop ≡ status.ReadFault → Rose before after
 stopped_read ReadFault before after cause e = cause
+stopped_read WriteFault before after cause e = absurd cause
 stopped_read OutOfMemory before after cause e = absurd cc
 
 pub written_no_read : (answer : Status) (finding : Finding) (before after : Option (List ℕ)) → IsWritten answer finding before after → answer ≡ status.ReadFault → ⊥
@@ -173,3 +142,9 @@ written_no_read answer finding before after written e = let w = subst (λ (s : S
 
 pub written_no_usage : (answer : Status) (finding : Finding) (before after : Option (List ℕ)) → IsWritten answer finding before after → answer ≡ status.Usage → ⊥
 written_no_usage answer finding before after written e = let w = subst (λ (s : Status). IsWritten s finding before after) e written in no_usage finding w.0
+
+-- a write that stopped
+pub cut_written : (stop : Stop) (finding : Finding) (faults later : ℕ) (before after : Option (List ℕ)) → WriteCause faults later stop → AppendsPrefix before after (finding_text finding) → IsWritten (status_of_stop stop) finding before after
+cut_written ReadFault finding faults later before after cause cut = absurd cause
+cut_written WriteFault finding faults later before after cause cut = cut
+cut_written OutOfMemory finding faults later before after cause cut = cut

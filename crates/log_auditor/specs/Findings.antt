@@ -6,8 +6,8 @@ use Rattle.ddr_io.specs.Sink.{AppendsPrefix}
 use Rattle.ddr_io.specs.declared.status.Status.{Status}
 use Rattle.ddr_io.specs.declared.status.Status.TheVariants as status
 use Rattle.ddr_text.specs.Opening.{Opens, Accepts, Refuses, opening_of, parts_of}
-use Rattle.ddr_text.specs.ReportParts.{places_of}
-use Rattle.ddr_text.specs.ReportParts.{Refusal}
+use Rattle.ddr_text.specs.Outcome.{ReadsAll}
+use Rattle.ddr_text.specs.ReportParts.{Refusal, places_of}
 use Rattle.ddr_text.specs.Spelling.{spaced, spelled}
 use Rattle.ddr_text.specs.declared.lines.ReportLine.{ReportLine}
 use Rattle.ddr_text.specs.declared.lines.ReportLine.TheVariants.{Issued, Value, Flip, Stat, End, Refused as RefusedLine}
@@ -93,10 +93,14 @@ finding_of bytes = found_in (opening_of bytes)
 
 -- ---- What is written
 
+-- the line that says that this rule is broken at the line with this number, the first one at which any is
+unfoldable pub broken_text : ℕ → ℕ → List ℕ
+broken_text line rule = codes "A broken" ++ spaced line ++ spaced rule ++ codes "\n"
+
 -- the one line of a finding
 unfoldable pub finding_text : Finding → List ℕ
 finding_text Fine = codes "A ok\n"
-finding_text (Broken line rule) = codes "A broken" ++ spaced line ++ spaced rule.0 ++ codes "\n"
+finding_text (Broken line rule) = broken_text line rule.0
 finding_text (Refused line reason) = spelled (RefusedLine line reason)
 
 abbrev pub status_of : Finding → Status
@@ -116,11 +120,6 @@ Writes answer bytes before after = (finding : Finding) × Finds bytes finding ×
 -- a prefix of it was written
 abbrev pub BeginsToWrite : Option (List ℕ) → Option (List ℕ) → Option (List ℕ) → Type 0
 BeginsToWrite bytes before after = (finding : Finding) × Finds bytes finding × AppendsPrefix before after (finding_text finding)
-
--- nothing is left of the bytes
-abbrev pub ReadsAll : Option (List ℕ) → Option (List ℕ) → Type 0
-ReadsAll None new = ⊤
-ReadsAll (Some bytes) new = new ≡ Some []
 
 -- What an audit answers, by the bytes that its source had and has left, and those that its sink got. A report without a
 -- line to refuse was read to its end.

@@ -1,21 +1,19 @@
 -- How far an audit has come: the lines that it has read, and what it found in them.
 use Rattle.std.specs.Prelude.{ℕ, suc, ◌≡◌, ⊤, false, List, [], ◌∷◌, length, Some, None, IfSome}
 use Rattle.std.specs.declared.option.Option.{Option}
-use Rattle.ddr_io.specs.Faults.{Rose}
 use Rattle.ddr_io.specs.Sink.{AppendsPrefix}
 use Rattle.ddr_io.specs.declared.line_reader.Line.TheVariants.{Text as TextAnswer}
 use Rattle.ddr_io.specs.declared.status.Status.{Status}
 use Rattle.ddr_io.specs.declared.status.Status.TheVariants as status
 use Rattle.ddr_text.specs.Opening.{parts_of}
+use Rattle.ddr_text.specs.Outcome.{ReadsAll}
 use Rattle.ddr_text.specs.declared.lines.ReportLine.{ReportLine}
 use Rattle.speed_bin.specs.declared.header.Header.{Header}
 use Rattle.std.specs.Io.KnownBytes.{Appends}
 use Rattle.log_auditor.specs.Auditing.{StandsFor}
 use Rattle.speed_bin.specs.Header.{shape_of}
-use Rattle.log_auditor.specs.Findings.{breach_of, end_of, fine_or, found_behind, log_of, finding_text, status_of, ReadsAll}
+use Rattle.log_auditor.specs.Findings.{breach_of, end_of, fine_or, found_behind, log_of, finding_text, status_of}
 use Rattle.log_auditor.specs.Reading.{Lines, Place, is_whole, lines_in, lines_left, with_line}
-use Rattle.log_auditor.specs.declared.audit_loop.Stop.{Stop}
-use Rattle.log_auditor.specs.declared.audit_loop.Stop.TheVariants.{ReadFault, OutOfMemory}
 use Rattle.log_auditor.specs.declared.auditor.Auditor.{Auditor}
 use Rattle.log_auditor.specs.declared.finding.Finding.{Finding}
 use Rattle.log_auditor.specs.declared.finding.Finding.TheVariants.{Fine, Broken, Refused}
@@ -61,16 +59,7 @@ ReadsAllOf old new Fine = ReadsAll old new
 ReadsAllOf old new (Broken line rule) = ReadsAll old new
 ReadsAllOf old new (Refused line reason) = ⊤
 
--- ---- Stops
-
-abbrev pub stop_status : Stop → Status
-stop_status ReadFault = status.ReadFault
-stop_status OutOfMemory = status.OutOfMemory
-
--- a fault of the source was counted
-abbrev pub StopCause : ℕ → ℕ → Stop → Type 0
-StopCause before after ReadFault = Rose before after
-StopCause before after OutOfMemory = ⊤
+-- ---- The answer
 
 -- the line of a finding was written, or a prefix of it
 abbrev pub IsWritten : Status → Finding → Option (List ℕ) → Option (List ℕ) → Type 0

@@ -3,11 +3,12 @@ ghost use Rattle.std.specs.Prelude.{ℕ, ◌≡◌, ◌≢◌, ◌+◌, ◌++◌
 ghost use Rattle.ddr_io.specs.Faults.{Rose};
 ghost use Rattle.ddr_io.specs.Line.{next_bytes};
 ghost use Rattle.ddr_text.specs.AcceptedReport.{IsReportLine};
+ghost use Rattle.ddr_text.specs.Stop.{ReadCause};
 ghost use Rattle.ddr_text.specs.declared.lines.ReportLine.{ReportLine as AnyReportLine};
 ghost use Rattle.speed_bin.specs.Header.{IsAccepted, shape_of};
 ghost use Rattle.speed_bin.specs.declared.header.Header.{Header as AnyHeader};
 ghost use Rattle.log_auditor.specs.Findings.{Answers, Finds, is_place};
-ghost use Rattle.log_auditor.specs.Progress.{Audited, FindsBehind, IsWritten, ReadsAllOf, StopCause, stop_status};
+ghost use Rattle.log_auditor.specs.Progress.{Audited, FindsBehind, IsWritten, ReadsAllOf};
 ghost use Rattle.log_auditor.specs.Reading.{stage_after};
 ghost use Rattle.log_auditor.specs.declared.report_reader.Stage.{Stage as AnyStage};
 
@@ -15,8 +16,8 @@ use crate::finding::Finding;
 use crate::report_reader::{Next, ReportReader};
 use crate::{Auditor, Verdict};
 use arrayvec::ArrayVec;
-use ddr_io::{Line, LineReader, Put, Sink, Source, Status, put_all};
-use ddr_text::{Opening, ReportLine, open_job};
+use ddr_io::{Line, LineReader, Sink, Source, Status};
+use ddr_text::{Opening, ReportLine, Stop, open_job, put};
 use speed_bin::Header;
 use std::alloc::Global;
 
@@ -40,24 +41,6 @@ pub fn audit<S: Source, K: Sink>(alloc: Global, source: &mut S, sink: &mut K) ->
     }
 }
 
-/// What ends an audit before it has read the report.
-#[derive(Clone, Copy, Debug, PartialEq, Eq)]
-enum Stop {
-    ReadFault,
-    OutOfMemory,
-}
-
-impl Stop {
-    fn status(self) -> Status
-        ensures { result ≡ stop_status self }
-    {
-        match self {
-            Stop::ReadFault => Status::ReadFault,
-            Stop::OutOfMemory => Status::OutOfMemory,
-        }
-    }
-}
-
 // Writes the one line.
 fn write_finding<K: Sink>(finding: Finding, sink: &mut K) -> Status
     ensures written { IsWritten result finding (K.written sink.old) (K.written sink.new) }
@@ -66,10 +49,9 @@ fn write_finding<K: Sink>(finding: Finding, sink: &mut K) -> Status
 {
     let mut text = ArrayVec::new();
     finding.spell(&mut text);
-    match put_all(sink, &text) {
-        Put::Took(_) => finding.status(),
-        Put::Failed => Status::WriteFault,
-        Put::NoMemory => Status::OutOfMemory,
+    match put(&text, sink) {
+        Ok(()) => finding.status(),
+        Err(cut) => cut.status(),
     }
 }
 
@@ -77,7 +59,7 @@ fn write_finding<K: Sink>(finding: Finding, sink: &mut K) -> Status
 fn find<S: Source>(alloc: Global, source: &mut S) -> Result<Finding, Stop>
     ensures found { IfOk result (Finds (S.left source.old)) }
     ensures all { IfOk result (ReadsAllOf (S.left source.old) (S.left source.new)) }
-    ensures cause { IfErr result (StopCause (S.faults source.old) (S.faults source.new)) }
+    ensures cause { IfErr result (ReadCause (S.faults source.old) (S.faults source.new)) }
     ensures kept { result ≢ Err Stop.ReadFault → S.faults source.new ≡ S.faults source.old }
 {
     let mut reader = LineReader::new();
@@ -101,7 +83,7 @@ fn find_behind<S: Source>(
     requires going_on { reader.last ≡ Line.Text }
     ensures found { IfOk result (FindsBehind header.now (next_bytes reader.held (S.left source.old))) }
     ensures all { IfOk result (ReadsAllOf (S.left source.old) (S.left source.new)) }
-    ensures cause { IfErr result (StopCause (S.faults source.old) (S.faults source.new)) }
+    ensures cause { IfErr result (ReadCause (S.faults source.old) (S.faults source.new)) }
     ensures kept { result ≢ Err Stop.ReadFault → S.faults source.new ≡ S.faults source.old }
 {
     let mut auditor = match Auditor::new(alloc, header) {

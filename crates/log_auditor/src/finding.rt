@@ -1,6 +1,6 @@
 //! What an audit finds, and the line that it writes.
 ghost use Rattle.std.specs.Prelude.{◌≡◌, []};
-ghost use Rattle.log_auditor.specs.Findings.{finding_text, is_fine, status_of};
+ghost use Rattle.log_auditor.specs.Findings.{broken_text, finding_text, is_fine, status_of};
 
 use crate::Rule;
 use arrayvec::ArrayVec;
@@ -48,16 +48,23 @@ impl Finding {
     {
         match self {
             Finding::Fine => put_text(b"A ok\n", out),
-            Finding::Broken(line, rule) => {
-                put_text(b"A broken", out);
-                put_spaced(line, out);
-                put_spaced(u64::from(rule.0), out);
-                put_text(b"\n", out);
-            }
+            Finding::Broken(line, rule) => put_broken(line, rule, out),
             Finding::Refused(line, reason) => write_report_line(
                 &ReportLine::Refused(line, reason),
                 out,
             ),
         }
     }
+}
+
+/// Appends the line that says that this rule is broken at the line with this number.
+#[tactic(auto, unfolding(crate::specs::Findings::broken_text))]
+pub fn put_broken(line: u64, rule: Rule, out: &mut ArrayVec<u8, 512>)
+    requires { out.old.items ≡ [] }
+    ensures { out.new.items ≡ broken_text line rule.0 }
+{
+    put_text(b"A broken", out);
+    put_spaced(line, out);
+    put_spaced(u64::from(rule.0), out);
+    put_text(b"\n", out);
 }

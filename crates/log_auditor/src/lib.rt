@@ -13,5 +13,6 @@ mod verdict;
 
 pub use audit_loop::audit;
 pub use auditor::Auditor;
+pub use finding::put_broken;
 pub use report_reader::{Next, ReportReader, Stage};
 pub use verdict::{Rule, Verdict};

@@ -1,3 +1,3 @@
 pub mod HeaderRead
-pub mod Pieces
+pub mod Jobs
 pub mod ReadBack

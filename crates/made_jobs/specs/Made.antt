@@ -5,9 +5,10 @@ use Rattle.std.specs.List.{flat_map}
 use Rattle.rand_core.specs.Steps.{word_bytes}
 use Rattle.rand_pcg.specs.Lcg.{Lcg, started, increment_of}
 use Rattle.rand_pcg.specs.Pcg.{pcg32, multiplier_64}
+use Rattle.ddr_text.specs.Opening.{with_feed}
 use Rattle.ddr_text.specs.declared.lines.TraceLine.{TraceLine}
 use Rattle.ddr_text.specs.declared.lines.TraceLine.TheVariants.{Read, Write}
-use Rattle.made_jobs.specs.TraceText.{with_feed, spelled_line}
+use Rattle.made_jobs.specs.TraceText.{spelled_line}
 
 -- ---- The header
 

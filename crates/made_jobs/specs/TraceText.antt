@@ -3,11 +3,8 @@ use Rattle.std.specs.Prelude.{ℕ, List, ◌++◌, codes}
 use Rattle.hex.specs.Hex.{encode_lower}
 use Rattle.ddr_text.specs.declared.lines.TraceLine.{TraceLine}
 use Rattle.ddr_text.specs.declared.lines.TraceLine.TheVariants.{Read, Write, Flip, Idle}
+use Rattle.ddr_text.specs.Opening.{with_feed}
 use Rattle.ddr_text.specs.Spelling.{spaced}
-
--- a text with its line feed
-abbrev pub with_feed : List ℕ → List ℕ
-with_feed text = text ++ codes "\n"
 
 -- a line of a trace, without its line feed; the bytes of a write in lower-case digits, byte 0 first
 unfoldable pub trace_text : TraceLine → List ℕ

@@ -1,13 +1,10 @@
 -- What a call has written of a piece, by its answer.
-use Rattle.std.specs.Prelude.{ℕ, ◌≡◌, List}
+use Rattle.std.specs.Prelude.{ℕ, List}
 use Rattle.std.specs.declared.option.Option.{Option}
 use Rattle.std.specs.Io.KnownBytes.{Appends}
-use Rattle.ddr_io.specs.Faults.{Rose}
 use Rattle.ddr_io.specs.Sink.{AppendsPrefix}
 use Rattle.ddr_io.specs.declared.status.Status.{Status}
 use Rattle.ddr_io.specs.declared.status.Status.TheVariants as status
-use Rattle.made_jobs.specs.declared.write.Stop.{Stop}
-use Rattle.made_jobs.specs.declared.write.Stop.TheVariants.{WriteFault, OutOfMemory}
 
 -- the whole piece at Ok, a prefix of it after a write fault or for want of memory, and no other answer
 abbrev pub Writes : Status → Option (List ℕ) → Option (List ℕ) → List ℕ → Type 0
@@ -18,8 +15,3 @@ Writes status.Refused before after piece = ⊥
 Writes status.Usage before after piece = ⊥
 Writes status.ReadFault before after piece = ⊥
 Writes status.Broken before after piece = ⊥
-
--- the cause of a stop, by the sink's count of faults before and after: a fault that was counted, or want of memory
-abbrev pub WriteCause : ℕ → ℕ → Stop → Type 0
-WriteCause before after WriteFault = Rose before after
-WriteCause before after OutOfMemory = after ≡ before

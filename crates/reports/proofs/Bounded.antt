@@ -13,7 +13,7 @@ use Rattle.speed_bin.specs.Marks.{is_bank, is_in_range, Keeps}
 use Rattle.speed_bin.specs.Rules.{broken, broken_at_end, verdict, verdict_after, verdict_at_end}
 use Rattle.speed_bin.proofs.Tests.{joined}
 use Rattle.speed_bin.specs.declared.header.Header.{Header}
-use Rattle.ddr_text.specs.Ranges.{IsWithin}
+use Rattle.ddr_text.specs.Ranges.{IsCommandOf}
 use Rattle.ddr_text.specs.declared.lines.TraceLine.{TraceLine}
 use Rattle.reports.specs.Runs.{Issues, Flips, Run, log_of}
 use Rattle.reports.specs.Sound.{Sound, IsRun, IsBounded, AllBounded}
@@ -34,7 +34,7 @@ verdict-run h trace run clock r =
 own-bank : (h : Header) (bank : Bank) → bank.group < h.version.groups → bank.address < 4 → is_bank h bank ≡ true
 own-bank h bank group address = lt-ltb (bank_number bank) (h.version.groups * 4) (omega (arith, group, address))
 
-pub row-in-range : (h : Header) (command : Command) → IsWithin (shape_of h) command → IsTrue (is_in_range h command)
+pub row-in-range : (h : Header) (command : Command) → IsCommandOf (shape_of h) command → IsTrue (is_in_range h command)
 row-in-range h (Act bank row) w = joined (nat_lt row h.settings.rows) (is_bank h bank) (lt-ltb row h.settings.rows w.1) (own-bank h bank w.0.group w.0.address)
 row-in-range h (Rd bank column) w = own-bank h bank w.0.group w.0.address
 row-in-range h (Wr bank column) w = own-bank h bank w.0.group w.0.address

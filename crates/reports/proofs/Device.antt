@@ -15,7 +15,7 @@ use Rattle.device_core.specs.Standing.{IsGiven, HasBytes, IsBit}
 use Rattle.device_core.specs.Steps.{Step as DeviceStep, Flips as Turns, log_of as device_log}
 use Rattle.device_core.specs.Stored.{line_at as device_line_at, answer as device_answer, reading, changes_of}
 use Rattle.requests.specs.declared.request.Kind.TheVariants.{Read as Reads, Write as Writes}
-use Rattle.ddr_text.specs.Ranges.{IsWithin}
+use Rattle.ddr_text.specs.Ranges.{IsCommandOf}
 use Rattle.ddr_text.specs.declared.lines.TraceLine.{TraceLine}
 use Rattle.ddr_text.specs.declared.lines.TraceLine.TheVariants.{Read, Write, Flip, Idle}
 use Rattle.reports.specs.Requests.{Request, request_of, requests}
@@ -44,7 +44,7 @@ few-groups : (g k : ℕ) → IsGroups k → g < k → g < 8
 few-groups g k (inl e) low = omega (arith, e, low)
 few-groups g k (inr e) low = omega (arith, e, low)
 
-in-range : (h : Header) (command : Command) → IsAccepted h → IsWithin (shape_of h) command → IsInRange command
+in-range : (h : Header) (command : Command) → IsAccepted h → IsCommandOf (shape_of h) command → IsInRange command
 in-range h (Act bank row) a w = (record { group = few-groups bank.group h.version.groups a.version.2 w.0.group; address = w.0.address }, omega (arith, w.1, a.settings.rows.1))
 in-range h (Rd bank column) a w = (record { group = few-groups bank.group h.version.groups a.version.2 w.0.group; address = w.0.address }, w.1)
 in-range h (Wr bank column) a w = (record { group = few-groups bank.group h.version.groups a.version.2 w.0.group; address = w.0.address }, w.1)

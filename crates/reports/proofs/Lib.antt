@@ -27,3 +27,4 @@ pub mod Counted
 pub mod Controlled
 pub mod Literal
 pub mod Inside
+pub mod Overtaking

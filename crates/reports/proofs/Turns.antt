@@ -18,7 +18,7 @@ use Rattle.requests.specs.Queue.{Step as NumberedStep, waiting, span, AreKnown, 
 use Rattle.speed_bin.specs.Header.{shape_of}
 use Rattle.requests.specs.Window.{window as window_of}
 use Rattle.requests.specs.declared.request.Request.{Request as Asked}
-use Rattle.ddr_text.specs.Ranges.{IsWithin}
+use Rattle.ddr_text.specs.Ranges.{IsCommandOf}
 use Rattle.ddr_text.specs.declared.lines.TraceLine.{TraceLine}
 use Rattle.ddr_text.specs.declared.lines.TraceLine.TheVariants.{Read, Write, Flip, Idle}
 use Rattle.reports.specs.Requests.{Request, request_of, requests_from, requests}
@@ -39,7 +39,7 @@ use Rattle.reports.proofs.Window.{QueueIsWindow, asked-for, asks-none, reaches}
 own-group : (h : Header) (bank : Bank) → is_bank h bank ≡ true → bank.group < h.version.groups
 own-group h bank here = let low = ltb-true (bank_number bank) (h.version.groups * 4) here in omega (arith, low)
 
-within-legal : (h : Header) (clock : ℕ) (command : Command) (log : Log) → IsLegal h clock command log → IsWithin (shape_of h) command
+within-legal : (h : Header) (clock : ℕ) (command : Command) (log : Log) → IsLegal h clock command log → IsCommandOf (shape_of h) command
 within-legal h clock (Act bank row) log l =
     let p = both (nat_lt row h.settings.rows) (is_bank h bank) l.row in
     (record { group = own-group h bank p.1; address = l.in_range.0.address }, ltb-true row h.settings.rows p.0)

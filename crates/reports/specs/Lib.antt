@@ -13,3 +13,4 @@ pub mod Sound
 pub mod Whole
 pub mod Headline
 pub mod Underway
+pub mod Ages

@@ -10,7 +10,7 @@ use Rattle.speed_bin.specs.Log.{Log}
 use Rattle.speed_bin.specs.Page.{keeps_page}
 use Rattle.speed_bin.specs.Rules.{broken, broken_at_end}
 use Rattle.speed_bin.specs.declared.header.Header.{Header}
-use Rattle.ddr_text.specs.Ranges.{IsWithin}
+use Rattle.ddr_text.specs.Ranges.{IsCommandOf}
 use Rattle.ddr_text.specs.declared.lines.TraceLine.{TraceLine}
 use Rattle.reports.specs.Requests.{requests, flips}
 use Rattle.reports.specs.Runs.{Served, Step, Issues, Flips, Run, log_of, served, flipped, held, Serves, IsNext}
@@ -22,7 +22,7 @@ use Rattle.reports.specs.Window.{KeepsWindow}
 -- request that comes next on its line and is of that line and kind; another command serves none.
 pub record IsSoundPlace (h : Header) (trace : List TraceLine) (run : Run) (s : Served) : Type 0 where
   pub in_time : s.issued.clock < 2 ^ 48
-  pub in_range : IsWithin (shape_of h) s.issued.command
+  pub in_range : IsCommandOf (shape_of h) s.issued.command
   pub rules : broken h s.issued.clock s.issued.command (log_of run) ≡ None
   pub is_of : IsOf (shape_of h) s (log_of run)
   pub is_next : IfSome s.request (λ r. IsNext (requests trace) run r)

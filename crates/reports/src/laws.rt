@@ -30,6 +30,7 @@ ghost use Rattle.ddr_text.specs.Grammar.{trace_line_of};
 ghost use Rattle.ddr_text.specs.ReportParts.{Refusal, places_of};
 ghost use Rattle.reports.specs.Requests.{Request, request_of, requests, flip_of, flips};
 ghost use Rattle.reports.specs.Runs.{Served, Step, Issues, Flips, Run, log_of, is_served, unserved, flipped, Serves, IsNext, IsThrough, ready, held};
+ghost use Rattle.reports.specs.Ages.{IsCapped, overtaking};
 ghost use Rattle.reports.specs.Accesses.{IsColumn, InOrder, BeginsInOrder};
 ghost use Rattle.reports.specs.Barriers.{bits_of, turned_bits, idle_clocks, IsIdled};
 ghost use Rattle.reports.specs.Delivered.{bytes_for, device_steps, IsInside, AreInside};
@@ -199,6 +200,14 @@ pub fn goes_through()
         → Serves (requests trace) run [] }
     ensures all_flips { (trace : List TraceLine) (n : ℕ) (run : Run) → IsThrough trace n run → length trace ≤ n
         → reverse (flipped run) ≡ flips trace }
+{}
+
+/// Where no more than `cap` requests stand in a row without an I line between them, fewer than `cap` requests with a greater
+/// number are served before any given request.
+pub fn caps_ages()
+    ensures { (h : Header) (trace : List TraceLine) (run : Run) (clock cap : ℕ) (earlier later : List Request) (r : Request)
+        → IsRun h trace run clock → IsCapped cap trace → requests trace ≡ earlier ++ r ∷ later
+        → length (overtaking trace run r) < cap }
 {}
 
 // ---- A controller

@@ -18,7 +18,7 @@ use Rattle.reports.specs.Report.{answers}
 use Rattle.trace_replay.specs.Held.{Kept, first_served, has_ended, without_first}
 use Rattle.trace_replay.specs.Progress.{outcome_of, kept_as, kept_of, lines_for, answer_lines}
 use Rattle.trace_replay.specs.declared.held.HeldRequest.{HeldRequest}
-use Rattle.trace_replay.proofs.Pieces.{prefix-behind, prefix-longer}
+use Rattle.ddr_text.proofs.Prefixes.{prefix-behind, prefix-longer}
 
 -- these lines are written of the answers that are due, and these requests are kept still
 pub record Remains (h : Header) (trace : List TraceLine) (run : Run) (before : ℕ) (rs : List Request) (kept : Kept) (old new : Option (List ℕ)) : Type 0 where

@@ -31,7 +31,7 @@ use Rattle.trace_replay.specs.declared.ending.Ending.{Ending}
 use Rattle.trace_replay.specs.declared.progress.Ahead.{Ahead}
 use Rattle.trace_replay.specs.declared.progress.Ahead.TheVariants.{Unknown, Waits, Passes, End, Refused}
 use Rattle.trace_replay.specs.declared.progress.Progress.{Progress}
-use Rattle.trace_replay.proofs.Pieces.{prefix-behind}
+use Rattle.ddr_text.proofs.Prefixes.{prefix-behind}
 
 -- ---- One piece behind the other
 

@@ -19,7 +19,7 @@ use Rattle.trace_replay.specs.Progress.{IsUnder, IsBegun}
 use Rattle.trace_replay.specs.declared.progress.Ahead.{Ahead}
 use Rattle.trace_replay.specs.declared.progress.Ahead.TheVariants.{Unknown, Waits, Passes, End, Refused}
 use Rattle.trace_replay.specs.declared.progress.Progress.{Progress}
-use Rattle.trace_replay.proofs.Pieces.{prefix-whole}
+use Rattle.ddr_text.proofs.Prefixes.{prefix-whole}
 
 -- these lines are the first ones of a trace
 abbrev Begins : List TraceLine → Traced → Type 0

@@ -34,7 +34,7 @@ use Rattle.trace_replay.specs.declared.progress.Ahead.{Ahead}
 use Rattle.trace_replay.specs.declared.progress.Ahead.TheVariants.{Unknown, Waits, Passes, End, Refused}
 use Rattle.trace_replay.specs.declared.progress.Progress.{Progress}
 use Rattle.trace_replay.specs.declared.trace_lines.Tally.{Tally}
-use Rattle.trace_replay.proofs.Pieces.{prefix-behind}
+use Rattle.ddr_text.proofs.Prefixes.{prefix-behind}
 use Rattle.trace_replay.proofs.Under.{Agrees, Few}
 use Rattle.trace_replay.proofs.Taken.{Known, Within, controls, same-length, few-asked, total-clocks}
 

@@ -6,7 +6,6 @@ mod Issuing
 mod Answering
 mod Delivering
 mod Noting
-pub mod Pieces
 pub mod TraceParts
 mod Fronts
 mod LoopAnswers

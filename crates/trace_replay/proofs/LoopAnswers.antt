@@ -17,7 +17,7 @@ use Rattle.trace_replay.specs.Replay.{Starts, Reports, refusal_of, IsServed, End
 use Rattle.trace_replay.specs.declared.ending.Ending.{Ending}
 use Rattle.trace_replay.specs.declared.replay_loop.Ended.TheVariants.{Finished}
 use Rattle.trace_replay.proofs.Closing.{whole-is}
-use Rattle.trace_replay.proofs.Pieces.{prefix-behind}
+use Rattle.ddr_text.proofs.Prefixes.{prefix-behind}
 
 whole-bytes : (h : Header) (text : List ℕ) (trace : List TraceLine) (refused : Option ℕ) (start left before now : Option (List ℕ)) (ending : Ending) (s : IsServed h text trace refused start left before now ending)
     → (text ++ flat_map spelled (report h trace s.run)) ++ flat_map spelled (end_lines ending) ≡ text ++ flat_map spelled (whole h trace s.run ending.clock (refusal_of trace refused))

@@ -12,11 +12,11 @@ use Rattle.trace_replay.specs.Progress.{Holds, IsUnder, IsOver, IsLeftOff, IsBeg
 use Rattle.ddr_io.specs.declared.status.Status.{Status}
 use Rattle.ddr_io.specs.declared.status.Status.TheVariants as status
 use Rattle.trace_replay.specs.Replay.{StopsServing, IsWhole}
-use Rattle.trace_replay.specs.Stop.{ReadCause, WriteCause, status_of}
+use Rattle.ddr_text.specs.Stop.{ReadCause, WriteCause, status_of}
 use Rattle.trace_replay.specs.declared.progress.Progress.{Progress}
-use Rattle.trace_replay.specs.declared.stop.Stop.{Stop}
-use Rattle.trace_replay.specs.declared.stop.Stop.TheVariants.{ReadFault, WriteFault, OutOfMemory}
-use Rattle.trace_replay.proofs.Pieces.{prefix-whole}
+use Rattle.ddr_text.specs.declared.stop.Stop.{Stop}
+use Rattle.ddr_text.specs.declared.stop.Stop.TheVariants.{ReadFault, WriteFault, OutOfMemory}
+use Rattle.ddr_text.proofs.Prefixes.{prefix-whole}
 use Rattle.trace_replay.proofs.LoopTrace.{front-taken}
 
 left-begun : (h : Header) (start left before written : Option (List ℕ)) → IsLeftOff h start left before written → IsBegun h start before written

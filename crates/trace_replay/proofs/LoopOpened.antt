@@ -13,7 +13,7 @@ use Rattle.speed_bin.specs.Header.{shape_of}
 use Rattle.trace_replay.specs.Job.{trace_of, Traced, IsJobOf, IsNoJob}
 use Rattle.trace_replay.specs.Reading.{Continues}
 use Rattle.trace_replay.specs.Replay.{JobAnswers, TraceAnswers, Answers, IsServed, TraceEnds, RunAnswers, EndKept, IsUnrefused}
-use Rattle.trace_replay.specs.Stop.{status_of}
+use Rattle.ddr_text.specs.Stop.{status_of}
 use Rattle.trace_replay.specs.declared.ending.Ending.{Ending}
 use Rattle.trace_replay.specs.declared.replay_loop.Ended.{Ended}
 use Rattle.trace_replay.specs.declared.replay_loop.Ended.TheVariants.{Finished, Stopped, Refused as RefusedOpening}

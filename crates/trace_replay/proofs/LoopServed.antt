@@ -25,14 +25,14 @@ use Rattle.trace_replay.specs.Job.{trace_of, IsTrace, IsUsedUp}
 use Rattle.trace_replay.specs.Reading.{IsRead, IsFront}
 use Rattle.trace_replay.specs.Progress.{following, Holds, IsUnder, IsOver, IsLeftOff, IsBegun}
 use Rattle.trace_replay.specs.Replay.{Starts, refusal_of, StopsServing, IsTraced, TraceAnswers, TraceServed}
-use Rattle.trace_replay.specs.Stop.{status_of, WriteCause}
+use Rattle.ddr_text.specs.Stop.{status_of, WriteCause}
 use Rattle.trace_replay.specs.declared.ending.Ending.{Ending}
 use Rattle.trace_replay.specs.declared.progress.Ahead.{Ahead}
 use Rattle.trace_replay.specs.declared.progress.Ahead.TheVariants.{Unknown, Waits, Passes, End, Refused}
 use Rattle.trace_replay.specs.declared.progress.Progress.{Progress}
-use Rattle.trace_replay.specs.declared.stop.Stop.{Stop}
-use Rattle.trace_replay.specs.declared.stop.Stop.TheVariants.{ReadFault, WriteFault, OutOfMemory}
-use Rattle.trace_replay.proofs.Pieces.{prefix-behind, prefix-longer}
+use Rattle.ddr_text.specs.declared.stop.Stop.{Stop}
+use Rattle.ddr_text.specs.declared.stop.Stop.TheVariants.{ReadFault, WriteFault, OutOfMemory}
+use Rattle.ddr_text.proofs.Prefixes.{no-prefix, prefix-behind, prefix-longer}
 use Rattle.trace_replay.proofs.LoopTrace.{LineLaws, no-lines, within-whole}
 
 -- what is known of reports
@@ -108,13 +108,10 @@ starting laws OutOfMemory h text start left before after a b cause s = inl (star
 pub under-start : (h : Header) (p : Progress) (start left written : Option (List ℕ)) → Holds h p [] [] → IsRead (shape_of h) [] p.ahead start left → IsUnder h p start left written written
 under-start h p start left written k r = record { trace = []; run = []; holds = k; read = r; wrote = Appends-nil written }
 
-nothing : (before : Option (List ℕ)) (bytes : List ℕ) → AppendsPrefix before before bytes
-nothing before bytes = (0, omega arith, Appends-nil before)
-
 pub stops-at-once : ReportLaws → (stop : Stop) (h : Header) (text : List ℕ) (start left before : Option (List ℕ)) → stop ≡ OutOfMemory → TraceAnswers (status_of stop) h text start left before before
 stops-at-once laws stop h text start left before is =
     subst (λ (s : Stop). TraceAnswers (status_of s) h text start left before before) (sym is)
-    (starting laws OutOfMemory h text start left before before 0 0 tt (opening-started h text start before before (nothing before text)))
+    (starting laws OutOfMemory h text start left before before 0 0 refl (opening-started h text start before before (no-prefix before text)))
 
 pub stops-opening : ReportLaws → (stop : Stop) (h : Header) (text : List ℕ) (start left before after : Option (List ℕ)) (a b : ℕ) → WriteCause a b stop → AppendsPrefix before after text → TraceAnswers (status_of stop) h text start left before after
 stops-opening laws stop h text start left before after a b cause cut = starting laws stop h text start left before after a b cause (opening-started h text start before after cut)

@@ -16,7 +16,7 @@ use Rattle.reports.specs.Requests.{Request, request_of, requests}
 use Rattle.reports.specs.Runs.{Run, Flips, log_of, is_served, ready, held}
 use Rattle.reports.specs.Sound.{Sound}
 use Rattle.trace_replay.proofs.Fronts.{front-with}
-use Rattle.trace_replay.proofs.Pieces.{prefix-behind}
+use Rattle.ddr_text.proofs.Prefixes.{prefix-behind}
 use Rattle.trace_replay.proofs.Taken.{NoneHeld, get-last, InsideMore, StepsLonger, Laws-longer, ReportLonger, Parts, requests-more_of, kept-longer}
 use Rattle.reports.specs.Barriers.{idle_clocks}
 use Rattle.reports.specs.Delivered.{AreInside, device_steps}

@@ -8,5 +8,4 @@ pub mod Job
 pub mod Progress
 pub mod Reading
 pub mod Replay
-pub mod Stop
 pub mod Turning

@@ -10,6 +10,7 @@ use Rattle.ddr_io.specs.declared.status.Status.{Status}
 use Rattle.ddr_io.specs.declared.status.Status.TheVariants as status
 use Rattle.speed_bin.specs.Header.{shape_of}
 use Rattle.ddr_text.specs.Opening.{IsUnopened}
+use Rattle.ddr_text.specs.Outcome.{RefusesLine}
 use Rattle.ddr_text.specs.Spelling.{spelled}
 use Rattle.ddr_text.specs.declared.lines.TraceLine.{TraceLine}
 use Rattle.ddr_text.specs.declared.lines.ReportLine.TheVariants.{End as EndLine, Refused as RefusedLine}
@@ -25,12 +26,12 @@ use Rattle.trace_replay.specs.Ending.{end_lines}
 use Rattle.trace_replay.specs.Job.{trace_of, IsJobOf, IsPartOf, IsUsedUp, IsNoJob, IsTrace}
 use Rattle.trace_replay.specs.Progress.{IsLeftOff, IsBegun}
 use Rattle.trace_replay.specs.Reading.{IsTakenBy}
-use Rattle.trace_replay.specs.Stop.{status_of}
+use Rattle.ddr_text.specs.Stop.{status_of}
 use Rattle.trace_replay.specs.declared.ending.Ending.{Ending}
 use Rattle.trace_replay.specs.declared.replay_loop.Ended.{Ended}
 use Rattle.trace_replay.specs.declared.replay_loop.Ended.TheVariants.{Finished, Stopped, Refused as RefusedOpening}
-use Rattle.trace_replay.specs.declared.stop.Stop.{Stop}
-use Rattle.trace_replay.specs.declared.stop.Stop.TheVariants.{ReadFault, WriteFault, OutOfMemory}
+use Rattle.ddr_text.specs.declared.stop.Stop.{Stop}
+use Rattle.ddr_text.specs.declared.stop.Stop.TheVariants.{ReadFault, WriteFault, OutOfMemory}
 
 -- ---- What is written
 
@@ -55,10 +56,6 @@ Starts h text trace refused before after = (bytes : List ℕ) × IsStartOf spell
 abbrev pub LeavesOff : Header → List ℕ → List TraceLine → Option (List ℕ) → Option (List ℕ) → Type 0
 LeavesOff h text trace before after = (bytes : List ℕ) × IsUnfinishedOf spelled h text trace 64 bytes × Appends before after bytes
 
--- the one line of a report where the opening is refused
-abbrev pub refused_opening : ℕ → List ℕ
-refused_opening reason = spelled (RefusedLine 0 reason)
-
 -- ---- The answer
 
 -- where the job is this one
@@ -80,16 +77,6 @@ PartAnswers status.WriteFault h text trace before after = ⊥
 PartAnswers status.OutOfMemory h text trace before after = ⊥
 PartAnswers status.Usage h text trace before after = ⊥
 PartAnswers status.Broken h text trace before after = ⊥
-
--- where the opening is refused
-abbrev pub OpeningAnswers : Status → ℕ → Option (List ℕ) → Option (List ℕ) → Type 0
-OpeningAnswers status.Refused reason before after = Appends before after (refused_opening reason)
-OpeningAnswers status.WriteFault reason before after = AppendsPrefix before after (refused_opening reason)
-OpeningAnswers status.OutOfMemory reason before after = AppendsPrefix before after (refused_opening reason)
-OpeningAnswers status.Ok reason before after = ⊥
-OpeningAnswers status.ReadFault reason before after = ⊥
-OpeningAnswers status.Usage reason before after = ⊥
-OpeningAnswers status.Broken reason before after = ⊥
 
 -- where reading stopped before the trace: by a fault, where the bytes that were taken open no job
 abbrev pub StopAnswers : Status → Option (List ℕ) → Option (List ℕ) → Option (List ℕ) → Option (List ℕ) → Type 0
@@ -154,8 +141,8 @@ TraceEnds RefusedOpening h text start left before written = ⊥
 -- what was written of a job whose opening is refused
 abbrev pub OpeningEnds : Ended → ℕ → Option (List ℕ) → Option (List ℕ) → Type 0
 OpeningEnds (Finished ending) reason before written = ⊥
-OpeningEnds (Stopped stop) reason before written = OpeningAnswers (status_of stop) reason before written
-OpeningEnds RefusedOpening reason before written = Appends before written (refused_opening reason)
+OpeningEnds (Stopped stop) reason before written = RefusesLine (status_of stop) 0 reason before written
+OpeningEnds RefusedOpening reason before written = Appends before written (spelled (RefusedLine 0 reason))
 
 -- the cause of a stop, if that is how it ended
 abbrev pub EndCause : ℕ → ℕ → ℕ → ℕ → Ended → Type 0
@@ -200,7 +187,7 @@ Answers answer left left_after before after =
     × IsJobOf left h text trace refused × IsTrace (shape_of h) trace × JobAnswers answer h text trace refused left left_after before after)
     ⊎ (((h : Header) × (text : List ℕ) × (trace : List TraceLine)
     × IsPartOf left left_after h text trace × IsTrace (shape_of h) trace × PartAnswers answer h text trace before after)
-    ⊎ (((reason : ℕ) × IsNoJob left reason × OpeningAnswers answer reason before after)
+    ⊎ (((reason : ℕ) × IsNoJob left reason × RefusesLine answer 0 reason before after)
     ⊎ StopAnswers answer left left_after before after))
 
 -- ---- How a replay ended
@@ -211,5 +198,5 @@ abbrev pub RunAnswers : Ended → Option (List ℕ) → Option (List ℕ) → Op
 RunAnswers (Finished ending) left left_after before after =
     (h : Header) × (text : List ℕ) × (trace : List TraceLine) × (refused : Option ℕ)
     × IsJobOf left h text trace refused × IsTrace (shape_of h) trace × IsServed h text trace refused left left_after before after ending
-RunAnswers RefusedOpening left left_after before after = (reason : ℕ) × IsNoJob left reason × Appends before after (refused_opening reason)
+RunAnswers RefusedOpening left left_after before after = (reason : ℕ) × IsNoJob left reason × Appends before after (spelled (RefusedLine 0 reason))
 RunAnswers (Stopped stop) left left_after before after = Answers (status_of stop) left left_after before after

@@ -11,14 +11,12 @@ ghost use Rattle.reports.specs.Requests.{Request as AnyRequest};
 ghost use Rattle.reports.specs.Runs.{Run, ready, held as still_held};
 ghost use Rattle.reports.specs.Report.{answers};
 ghost use Rattle.trace_replay.specs.Progress.{kept_of, answer_lines};
-ghost use Rattle.trace_replay.specs.Stop.{WriteCause};
+ghost use Rattle.ddr_text.specs.Stop.{WriteCause};
 
 use crate::held::{Held, HeldRequest, Outcome};
-use crate::stop::Stop;
-use crate::writing::put_line;
 use command_words::LineAddr;
 use ddr_io::Sink;
-use ddr_text::ReportLine;
+use ddr_text::{ReportLine, Stop, put_line};
 use error_scrub::LineRead;
 
 // Writes the D lines of all reads before which no request is unserved.

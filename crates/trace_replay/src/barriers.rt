@@ -7,15 +7,13 @@ ghost use Rattle.ddr_text.specs.declared.lines.TraceLine.TheVariants.{Flip as An
 ghost use Rattle.reports.specs.Runs.{Run};
 ghost use Rattle.trace_replay.specs.Coupled.{finished_of};
 ghost use Rattle.trace_replay.specs.Progress.{IsResting, IsUnder, IsAtRest, IsBegun, IsKnown, MayGoOn, left_of};
-ghost use Rattle.trace_replay.specs.Stop.{WriteCause};
+ghost use Rattle.ddr_text.specs.Stop.{WriteCause};
 
 use crate::Coupled;
 use crate::progress::{Ahead, Progress};
-use crate::stop::Stop;
-use crate::writing::put_line;
 use command_words::{LineAddr, map_line};
 use ddr_io::{OutOfMemory, Sink};
-use ddr_text::{ReportLine, TraceLine};
+use ddr_text::{ReportLine, Stop, TraceLine, put_line};
 
 impl Progress {
     // An idle turn: the line ahead is carried out, or no more requests come.

@@ -6,13 +6,12 @@ ghost use Rattle.ddr_io.specs.Sink.{AppendsPrefix};
 ghost use Rattle.ddr_text.specs.Spelling.{spelled};
 ghost use Rattle.ddr_text.specs.declared.lines.ReportLine.TheVariants.{End as EndLine};
 ghost use Rattle.trace_replay.specs.Ending.{end_lines, refused_line};
-ghost use Rattle.trace_replay.specs.Stop.{WriteCause};
+ghost use Rattle.ddr_text.specs.Stop.{WriteCause};
 
 use crate::counts::Counts;
-use crate::stop::Stop;
-use crate::writing::{put_line, put_stats};
+use crate::writing::put_stats;
 use ddr_io::Sink;
-use ddr_text::ReportLine;
+use ddr_text::{ReportLine, Stop, put_line};
 use error_scrub::ScrubCounts;
 use scheduler::Clock;
 

@@ -15,7 +15,6 @@ mod progress;
 #[cfg(test)]
 mod refusal_tests;
 mod replay_loop;
-mod stop;
 #[cfg(test)]
 mod tests;
 mod trace_lines;
@@ -26,4 +25,3 @@ pub use counts::Counts;
 pub use coupled::Coupled;
 pub use ending::Ending;
 pub use replay_loop::{Ended, replay, run_job};
-pub use stop::Stop;

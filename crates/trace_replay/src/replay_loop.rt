@@ -12,14 +12,12 @@ ghost use Rattle.trace_replay.specs.Job.{IsJobOf};
 ghost use Rattle.trace_replay.specs.Reading.{Continues, IsRead};
 ghost use Rattle.trace_replay.specs.Progress.{Holds, IsUnder, IsOver, MayGoOn};
 ghost use Rattle.trace_replay.specs.Replay.{Answers, RunAnswers, OpeningEnds, TraceAnswers, TraceServed, TraceEnds, EndAnswers, EndCause, EndKept, IsUnrefused, IsWhole, StopsServing, StopCause};
-ghost use Rattle.trace_replay.specs.Stop.{status_of};
+ghost use Rattle.ddr_text.specs.Stop.{status_of};
 
 use crate::ending::Ending;
 use crate::progress::Progress;
-use crate::stop::Stop;
-use crate::writing::{put_line, put_opening};
 use ddr_io::{LineReader, Sink, Source, Status};
-use ddr_text::{HeaderText, Opening, ReportLine, open_job};
+use ddr_text::{HeaderText, Opening, ReportLine, Stop, open_job, put_line, put_opening};
 use speed_bin::Header;
 use std::alloc::Global;
 

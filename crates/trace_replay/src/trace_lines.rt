@@ -6,12 +6,11 @@ ghost use Rattle.ddr_text.specs.Reason.{HasNumber, number_of};
 ghost use Rattle.ddr_text.specs.declared.lines.TraceLine.{TraceLine as AnyLine};
 ghost use Rattle.trace_replay.specs.Job.{is_full, with_text, extended, clocks_of as clocks_in};
 ghost use Rattle.trace_replay.specs.Reading.{IsNext, IsTally, IsMore, MayStand, GoesOn, IsUnread, HasBytes};
-ghost use Rattle.trace_replay.specs.Stop.{ReadCause};
+ghost use Rattle.ddr_text.specs.Stop.{ReadCause};
 
-use crate::stop::Stop;
 use command_words::Geometry;
 use ddr_io::{Line, LineReader, Source};
-use ddr_text::{Reason, TraceLine, read_trace_line, trace_grammar};
+use ddr_text::{Reason, Stop, TraceLine, read_trace_line, trace_grammar};
 
 // A trace has at most so many lines.
 const MOST_LINES: u64 = 1_048_576;

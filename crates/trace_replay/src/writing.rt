@@ -1,47 +1,17 @@
-//! Writes the pieces of a report.
-ghost use Rattle.std.specs.Prelude.{◌≡◌, ◌≤◌, OnOk, IfOk, IfErr};
+//! Writes the counts of a report.
+ghost use Rattle.std.specs.Prelude.{◌≡◌, ◌≤◌, OnOk, IfErr};
 ghost use Rattle.std.specs.List.{flat_map};
 ghost use Rattle.std.specs.Io.KnownBytes.{Appends};
 ghost use Rattle.ddr_io.specs.Sink.{AppendsPrefix};
 ghost use Rattle.ddr_text.specs.Spelling.{spelled};
 ghost use Rattle.reports.specs.Stats.{stat_lines};
 ghost use Rattle.trace_replay.specs.Counts.{with_peak};
-ghost use Rattle.trace_replay.specs.Stop.{WriteCause};
+ghost use Rattle.ddr_text.specs.Stop.{WriteCause};
 
 use crate::counts::Counts;
-use crate::stop::{Stop, put};
-use arrayvec::ArrayVec;
 use ddr_io::Sink;
-use ddr_text::{HeaderText, ReportLine, StatName, write_report_line};
+use ddr_text::{ReportLine, StatName, Stop, put_lines};
 use error_scrub::ScrubCounts;
-
-/// Writes a line.
-#[tactic(auto, using(crate::proofs::Pieces::some_bytes))]
-pub(crate) fn put_line<K: Sink>(line: &ReportLine, sink: &mut K) -> Result<(), Stop>
-    ensures whole { OnOk result (Appends (K.written sink.old) (K.written sink.new) (spelled line.now)) }
-    ensures cut { IfErr result (λ stop. AppendsPrefix (K.written sink.old) (K.written sink.new) (spelled line.now)) }
-    ensures later { K.faults sink.old ≤ K.faults sink.new }
-    ensures kept { OnOk result (K.faults sink.new ≡ K.faults sink.old) }
-    ensures cause { IfErr result (WriteCause (K.faults sink.old) (K.faults sink.new)) }
-{
-    let mut text = ArrayVec::new();
-    write_report_line(line, &mut text);
-    put(sink, &text)
-}
-
-// Writes these lines.
-fn put_lines<K: Sink>(lines: &[ReportLine], sink: &mut K) -> Result<(), Stop>
-    ensures whole { OnOk result (Appends (K.written sink.old) (K.written sink.new) (flat_map spelled lines.now)) }
-    ensures cut { IfErr result (λ stop. AppendsPrefix (K.written sink.old) (K.written sink.new) (flat_map spelled lines.now)) }
-    ensures later { K.faults sink.old ≤ K.faults sink.new }
-    ensures kept { OnOk result (K.faults sink.new ≡ K.faults sink.old) }
-    ensures cause { IfErr result (WriteCause (K.faults sink.old) (K.faults sink.new)) }
-{
-    for line in lines {
-        put_line(line, sink)?;
-    }
-    Ok(())
-}
 
 // The fourteen S lines.
 #[tactic(auto, unfolding(reports::specs::Stats::stat_lines))]
@@ -80,19 +50,4 @@ pub(crate) fn put_stats<K: Sink>(
     ensures cause { IfErr result (WriteCause (K.faults sink.old) (K.faults sink.new)) }
 {
     put_lines(&lines_of(counts, peak, scrub), sink)
-}
-
-/// Writes the text of the header and its separator as one piece.
-pub(crate) fn put_opening<K: Sink>(text: &HeaderText, sink: &mut K) -> Result<(), Stop>
-    ensures whole { OnOk result (Appends (K.written sink.old) (K.written sink.new) text.now) }
-    ensures cut { IfErr result (λ stop. AppendsPrefix (K.written sink.old) (K.written sink.new) text.now) }
-    ensures later { K.faults sink.old ≤ K.faults sink.new }
-    ensures kept { OnOk result (K.faults sink.new ≡ K.faults sink.old) }
-    ensures cause { IfErr result (WriteCause (K.faults sink.old) (K.faults sink.new)) }
-{
-    let bytes = text.bytes();
-    if bytes.is_empty() {
-        return Ok(());
-    }
-    put(sink, bytes)
 }

@@ -1,6 +1,6 @@
 use Rattle.std.proofs.Common.{◌≡◌, ◌-◌}
 use Rattle.ddr_io.specs.Line.{next_bytes}
-use Rattle.ddr_cli.specs.Output.{WrittenSoFar}
+use Rattle.ddr_cli.specs.Behind.{WrittenSoFar}
 use Rattle.ddr_cli.specs.Wording.{written_as}
 use Rattle.ddr_cli.proofs.writing.write_behind.Given as goal
 

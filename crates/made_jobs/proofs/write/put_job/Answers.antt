@@ -2,7 +2,8 @@ use Rattle.std.proofs.Common.{◌∙◌, List, ℕ, arith, subst, sym}
 use Rattle.std.specs.Io.KnownBytes.{Appends}
 use Rattle.ddr_io.specs.Sink.{AppendsPrefix}
 use Rattle.made_jobs.specs.Made.{Drawing}
-use Rattle.made_jobs.proofs.Pieces.{Written, opening_is, opening-cut, written-none, written-more, written-cut, written-all, if_err}
+use Rattle.ddr_text.proofs.Prefixes.{if_err}
+use Rattle.made_jobs.proofs.Jobs.{Written, opening_is, opening-cut, written-none, written-more, written-cut, written-all}
 use Rattle.made_jobs.proofs.write.put_job.Goals as goal
 
 pub returns-in_err-put-clause-cut : goal.returns-in_err-put-clause-cut

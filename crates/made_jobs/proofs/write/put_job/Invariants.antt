@@ -1,5 +1,5 @@
 use Rattle.std.proofs.Common.{◌≡◌}
-use Rattle.made_jobs.proofs.Pieces.{Written}
+use Rattle.made_jobs.proofs.Jobs.{Written}
 use Rattle.made_jobs.proofs.write.put_job.Given as goal
 
 abbrev pub invariant-lines : goal.invariant-lines

@@ -1,7 +1,7 @@
 use Rattle.std.proofs.Common.{◌∙◌, sym, subst, arith}
 use Rattle.trace_replay.specs.Held.{Kept}
 use Rattle.trace_replay.proofs.Answering.{Remains, remains-next, remains-cut, remains-kept, remains-wrote}
-use Rattle.trace_replay.proofs.Pieces.{if_err}
+use Rattle.ddr_text.proofs.Prefixes.{if_err}
 use Rattle.trace_replay.proofs.answers.put_answers.Goals as goal
 
 pub answers-preserved : goal.answers-preserved

@@ -7,7 +7,7 @@ use Rattle.ddr_text.specs.declared.lines.ReportLine.TheVariants.{Flip as FlipLin
 use Rattle.trace_replay.specs.Progress.{IsUnder, IsAtRest, IsBegun, left_of}
 use Rattle.trace_replay.specs.declared.progress.Progress.{Progress}
 use Rattle.trace_replay.proofs.Fronts.{begun-of}
-use Rattle.trace_replay.proofs.Pieces.{on_ok-to, if_err-to}
+use Rattle.ddr_text.proofs.Prefixes.{on_ok-to, if_err-to}
 use Rattle.trace_replay.proofs.Passed.{FlipLaws, flip-under, flip-begun, flip-more, left-taken}
 use Rattle.trace_replay.proofs.progress.Progress.flip.Given as given
 use Rattle.trace_replay.proofs.progress.Progress.flip.Goals as goal

@@ -8,7 +8,7 @@ use Rattle.reports.specs.Requests.{requests}
 use Rattle.reports.specs.Runs.{ready, held}
 use Rattle.reports.specs.Report.{answers}
 use Rattle.reports.specs.Underway.{issue}
-use Rattle.trace_replay.proofs.Pieces.{on_ok-to, if_err-to, if_err, prefix-behind, prefix-longer, prefix-whole}
+use Rattle.ddr_text.proofs.Prefixes.{on_ok-to, if_err-to, if_err, prefix-behind, prefix-longer, prefix-whole}
 use Rattle.trace_replay.proofs.Delivering.{issued-holds}
 use Rattle.trace_replay.proofs.progress.Progress.issue.Goals as goal
 

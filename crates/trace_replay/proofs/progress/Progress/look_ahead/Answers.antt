@@ -1,5 +1,5 @@
 use Rattle.std.proofs.Common.{subst, sym, ◌≤◌}
-use Rattle.trace_replay.proofs.Pieces.{if_err}
+use Rattle.ddr_text.proofs.Prefixes.{if_err}
 use Rattle.trace_replay.specs.Progress.{IsUnder, left_of}
 use Rattle.ddr_io.specs.Line.{next_bytes}
 use Rattle.trace_replay.proofs.Under.{left-off, looked, left-next}

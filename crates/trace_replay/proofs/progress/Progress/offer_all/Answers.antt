@@ -5,7 +5,7 @@ use Rattle.trace_replay.specs.Progress.{IsKnown}
 use Rattle.trace_replay.specs.declared.progress.Ahead.{Ahead}
 use Rattle.trace_replay.specs.declared.progress.Ahead.TheVariants.{Unknown, Waits, Passes, End, Refused}
 use Rattle.trace_replay.specs.declared.progress.Progress.{Progress}
-use Rattle.trace_replay.proofs.Pieces.{if_err}
+use Rattle.ddr_text.proofs.Prefixes.{if_err}
 use Rattle.trace_replay.proofs.Under.{under-none, under-lines}
 use Rattle.trace_replay.proofs.progress.Progress.offer_all.Goals as goal
 

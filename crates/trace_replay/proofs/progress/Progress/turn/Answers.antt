@@ -1,7 +1,7 @@
 use Rattle.std.proofs.Common.{◌∙◌, arith}
 use Rattle.speed_bin.specs.Header.{shape_of}
 use Rattle.scheduler.specs.Controller.{number_of}
-use Rattle.trace_replay.proofs.Pieces.{if_err}
+use Rattle.ddr_text.proofs.Prefixes.{if_err}
 use Rattle.trace_replay.proofs.Fronts.{front-of}
 use Rattle.trace_replay.proofs.Issuing.{issued-under, issued-begun, left-issued, left-same}
 use Rattle.trace_replay.proofs.Finishing.{at-rest-of, over-of, known-of}

@@ -1,18 +1,13 @@
--- Pieces that are written one behind the other.
+-- Pieces that are written one behind the other, and prefixes of them.
 use Rattle.std.proofs.Common.{◌≡◌, ◌∙◌, ℕ, suc, ◌+◌, ◌<◌, Option, List, [], ◌∷◌, ◌++◌, take, drop, length, get_or, sym, ap, subst, arith, append-nil, length-append, zero-add, Result, Ok, Err, OnOk, IfErr}
 use Rattle.std.specs.List.{flat_map}
 use Rattle.std.specs.Io.KnownBytes.{Appends}
-use Rattle.std.proofs.KnownBytes.{Appends-trans}
+use Rattle.std.proofs.KnownBytes.{Appends-trans, Appends-nil}
 use Rattle.std.proofs.lemmas.List.{take_all, take_more, take-append-drop, take-append-le}
 use Rattle.std.proofs.lemmas.Grind.{flat_map-append}
 use Rattle.ddr_io.specs.Sink.{AppendsPrefix}
 use Rattle.ddr_text.specs.declared.lines.ReportLine.{ReportLine}
-use Rattle.std.specs.Prelude.{codes}
-use Rattle.ddr_text.specs.Spelling.{spelled, report_text}
-
-pub some_bytes : (line : ReportLine) → 0 < length (spelled line)
-unfolding spelled
-some_bytes line = omega (arith, length-append (report_text line) (codes "\n"))
+use Rattle.ddr_text.specs.Spelling.{spelled}
 
 -- ---- Prefixes
 
@@ -32,9 +27,12 @@ prefix-longer a b xs ys (n, low, cut) = (n, omega (arith, low, length-append xs 
 pub prefix-whole : (a b : Option (List ℕ)) (xs : List ℕ) → Appends a b xs → AppendsPrefix a b xs
 prefix-whole a b xs h = (length xs, omega arith, subst (Appends a b) (sym (take_all (length xs) xs (omega arith))) h)
 
+pub no-prefix : (a : Option (List ℕ)) (xs : List ℕ) → AppendsPrefix a a xs
+no-prefix a xs = (0, omega arith, Appends-nil a)
+
 -- ---- The lines of a list
 
-pub lines-more : (lines : List ReportLine) (i : ℕ) (line : ReportLine) → i < length lines → line ≡ get_or lines i line → flat_map spelled (take (i + 1) lines) ≡ flat_map spelled (take i lines) ++ spelled line
+lines-more : (lines : List ReportLine) (i : ℕ) (line : ReportLine) → i < length lines → line ≡ get_or lines i line → flat_map spelled (take (i + 1) lines) ≡ flat_map spelled (take i lines) ++ spelled line
 lines-more lines i line low is =
     ap (flat_map spelled) (take_more lines i line low ∙ ap (λ v. take i lines ++ v ∷ []) (sym is))
     ∙ flat_map-append spelled (take i lines) (line ∷ [])

@@ -2,7 +2,7 @@ use Rattle.std.proofs.Common.{◌≡◌, take}
 use Rattle.std.specs.List.{flat_map}
 use Rattle.std.specs.Io.KnownBytes.{Appends}
 use Rattle.ddr_text.specs.Spelling.{spelled}
-use Rattle.trace_replay.proofs.writing.put_lines.Given as goal
+use Rattle.ddr_text.proofs.writing.put_lines.Given as goal
 
 abbrev pub invariant-loop-line : goal.invariant-loop-line
 invariant-loop-line g l = record {

@@ -1,5 +1,5 @@
-use Rattle.trace_replay.proofs.Pieces.{lines-cut, if_err}
-use Rattle.trace_replay.proofs.writing.put_lines.Goals as goal
+use Rattle.ddr_text.proofs.Prefixes.{lines-cut, if_err}
+use Rattle.ddr_text.proofs.writing.put_lines.Goals as goal
 
 pub returns-in_err-put_line-clause-cut : goal.returns-in_err-put_line-clause-cut
 returns-in_err-put_line-clause-cut g c =

@@ -1,24 +1,26 @@
--- Why a replay stops before its report is whole.
-use Rattle.std.specs.Prelude.{ℕ, ⊤}
+-- Why a run stops before it has written all.
+use Rattle.std.specs.Prelude.{ℕ, ◌≡◌}
 use Rattle.ddr_io.specs.Faults.{Rose}
 use Rattle.ddr_io.specs.declared.status.Status.{Status}
 use Rattle.ddr_io.specs.declared.status.Status.TheVariants as status
-use Rattle.trace_replay.specs.declared.stop.Stop.{Stop}
-use Rattle.trace_replay.specs.declared.stop.Stop.TheVariants.{ReadFault, WriteFault, OutOfMemory}
+use Rattle.ddr_text.specs.declared.stop.Stop.{Stop}
+use Rattle.ddr_text.specs.declared.stop.Stop.TheVariants.{ReadFault, WriteFault, OutOfMemory}
 
+-- the status of a run that stops so
 abbrev pub status_of : Stop → Status
 status_of ReadFault = status.ReadFault
 status_of WriteFault = status.WriteFault
 status_of OutOfMemory = status.OutOfMemory
 
--- the cause of a stop while reading, by the source's count of faults before and after
+-- the cause of a stop while reading, by the source's count of faults before and after: a fault that was counted, or want
+-- of memory
 abbrev pub ReadCause : ℕ → ℕ → Stop → Type 0
 ReadCause before after ReadFault = Rose before after
 ReadCause before after WriteFault = ⊥
-ReadCause before after OutOfMemory = ⊤
+ReadCause before after OutOfMemory = after ≡ before
 
 -- the cause of a stop while writing, by the sink's
 abbrev pub WriteCause : ℕ → ℕ → Stop → Type 0
 WriteCause before after ReadFault = ⊥
 WriteCause before after WriteFault = Rose before after
-WriteCause before after OutOfMemory = ⊤
+WriteCause before after OutOfMemory = after ≡ before

@@ -1,37 +1,14 @@
--- Pieces that are written one behind the other.
-use Rattle.std.proofs.Common.{◌≡◌, ◌∙◌, ℕ, suc, ◌+◌, ◌-◌, ◌<◌, Option, List, [], ◌∷◌, ◌++◌, take, length, refl, sym, ap, subst, arith, append-nil, append_assoc, length-append, zero-add, Result, Ok, Err, IfErr}
+-- A job that is written line by line.
+use Rattle.std.proofs.Common.{◌≡◌, ◌∙◌, ℕ, suc, ◌+◌, ◌-◌, ◌<◌, Option, List, ◌++◌, refl, sym, ap, subst, arith, append-nil, append_assoc, zero-add}
 use Rattle.std.specs.List.{flat_map}
 use Rattle.std.specs.Io.KnownBytes.{Appends}
 use Rattle.std.proofs.KnownBytes.{Appends-trans}
-use Rattle.std.proofs.lemmas.List.{take-append-le}
-use Rattle.std.specs.Prelude.{codes}
 use Rattle.ddr_io.specs.Sink.{AppendsPrefix}
 use Rattle.ddr_text.specs.declared.lines.TraceLine.{TraceLine}
+use Rattle.ddr_text.proofs.Prefixes.{prefix-behind, prefix-longer}
 use Rattle.made_jobs.specs.Made.{Drawing, start, drawn, drawn_trace, made_trace, made, opening, header_text, header_lines}
-use Rattle.made_jobs.specs.TraceText.{spelled_line, trace_text}
+use Rattle.made_jobs.specs.TraceText.{spelled_line}
 use Rattle.made_jobs.specs.declared.write.TheConstants.{OPENING}
-
--- a line has its line feed at least
-pub some_bytes : (line : TraceLine) → 0 < length (spelled_line line)
-unfolding spelled_line
-some_bytes line = omega (arith, length-append (trace_text line) (codes "\n"))
-
--- ---- Prefixes
-
-take_past : (xs ys : List ℕ) (n : ℕ) → take (length xs + n) (xs ++ ys) ≡ xs ++ take n ys
-take_past [] ys n = ap (λ k. take k ys) (zero-add n)
-take_past (x ∷ xs) ys n =
-    let e : suc (length xs) + n ≡ suc (length xs + n) = omega arith in
-    ap (λ k. take k (x ∷ (xs ++ ys))) e ∙ ap (λ l. x ∷ l) (take_past xs ys n)
-
-pub prefix-behind : (a b c : Option (List ℕ)) (xs ys : List ℕ) → Appends a b xs → AppendsPrefix b c ys → AppendsPrefix a c (xs ++ ys)
-prefix-behind a b c xs ys h (n, low, cut) =
-    (length xs + n, omega (arith, low, length-append xs ys), subst (Appends a c) (sym (take_past xs ys n)) (Appends-trans a b c xs (take n ys) h cut))
-
-pub prefix-longer : (a b : Option (List ℕ)) (xs ys : List ℕ) → AppendsPrefix a b xs → AppendsPrefix a b (xs ++ ys)
-prefix-longer a b xs ys (n, low, cut) = (n, omega (arith, low, length-append xs ys), subst (Appends a b) (sym (take-append-le n xs ys low)) cut)
-
--- ---- The lines of a job
 
 -- the constant is the header's lines and the line that ends it
 pub opening_is : OPENING.now ≡ opening
@@ -83,8 +60,3 @@ written-all seed requests i d before now w all =
 pub opening-cut : (seed requests : ℕ) (before now : Option (List ℕ)) → AppendsPrefix before now opening → AppendsPrefix before now (made seed requests)
 unfolding made
 opening-cut seed requests before now cut = prefix-longer before now opening (flat_map spelled_line (made_trace seed requests)) cut
-
--- what holds anyway holds at an error
-pub if_err : {T E : Type 0} (r : Result T E) (P : Type 0) → P → IfErr r (λ e. P)
-if_err (Ok x) P h = tt
-if_err (Err e) P h = h
