@@ -1,5 +1,6 @@
 -- One list at both ends: its logs are the same, a turn leaves it as it was, and what is pending may be given.
-use Rattle.std.proofs.Common.{◌*◌, true, nat_lt, lt-ltb, eqb-true, IsSome, ◌≡◌, ◌∙◌, ◌<◌, ◌^◌, ℕ, Bool, false, Option, Some, None, is_some, option_map, option_copied, List, [], ◌∷◌, max, IsTrue, refl, sym, ap, subst, arith}
+use Rattle.std.proofs.Common.{◌++◌, Result, Ok, Err, IfOk, OnOk, OnErr, ◌*◌, true, nat_lt, lt-ltb, eqb-true, IsSome, ◌≡◌, ◌∙◌, ◌<◌, ◌^◌, ℕ, Bool, false, Option, Some, None, is_some, option_map, option_copied, List, [], ◌∷◌, max, IsTrue, refl, sym, ap, subst, arith}
+use Rattle.std.proofs.Math.Logic.{∥∥₁_map}
 use Rattle.requests.proofs.Oldest.{holds}
 use Rattle.speed_bin.proofs.Tests.{both, joined}
 use Rattle.std.proofs.lemmas.Bool.Decides.{nat_tests}
@@ -19,16 +20,17 @@ use Rattle.requests.specs.Choice.{IsChosen, IsOldestRow, IsPrompt}
 use Rattle.requests.specs.Queue.{in_bank, hits, oldest, Step as NumberedStep, places, waiting}
 use Rattle.requests.specs.declared.request.Request.{Request}
 use Rattle.requests.specs.declared.waiting.Waiting.{Waiting}
-use Rattle.scheduler.specs.Controller.{number_of, StandsFor as ControllerFor, After as ControllerAfter, from_of as controller_from}
+use Rattle.scheduler.specs.Controller.{number_of, StandsFor as ControllerFor, After as ControllerAfter, header_of as controller_header, from_of as controller_from}
 use Rattle.scheduler.specs.declared.state.State.{State as Controller}
 use Rattle.scheduler.specs.declared.turn.Turn.{Turn}
 use Rattle.scheduler.specs.declared.turn.Turn.TheVariants.{Issue, Idle, Done}
-use Rattle.device_core.specs.Standing.{StandsFor as DeviceFor, MayFollow}
-use Rattle.device_core.specs.Steps.{log_of as device_log}
+use Rattle.command_words.specs.declared.geometry.Place.{Place}
+use Rattle.device_core.specs.Standing.{StandsFor as DeviceFor, MayFollow, IsBit, IsUnchanged}
+use Rattle.device_core.specs.Steps.{Step as DeviceStep, Flips as Turns, log_of as device_log}
 use Rattle.device_core.specs.Held.{Held as DeviceHeld}
-use Rattle.trace_replay.specs.Coupled.{Step, Delivers, Flips, log_of, controller_steps, device_steps, with_pending, issued_as, issued_in, step_of, IsDue, IsDueIfAny, IsAwaited, delivered, Keeps, StandsFor, After, controller_of, pending_of}
-use Rattle.trace_replay.specs.declared.coupled.Pending.{Pending}
-use Rattle.trace_replay.specs.declared.coupled.Coupled.{Coupled}
+use Rattle.trace_replay.specs.Coupled.{Step, Delivers, Flips, log_of, controller_steps, device_steps, with_pending, issued_as, issued_in, step_of, IsDue, IsDueIfAny, IsAwaited, delivered, Keeps, StandsFor, StandsForSome, After, controller_of, pending_of}
+use Rattle.trace_replay.specs.declared.ends.Pending.{Pending}
+use Rattle.trace_replay.specs.declared.ends.Ends.{Ends as Coupled}
 
 -- ---- One log
 
@@ -180,3 +182,110 @@ after_delivery c h offered idle steps p bytes device raised s here given shown =
   alert = shown ∙ ap (λ (l : Log). is_some (alert h l)) (device_log_is (delivered (step_of p) bytes ∷ steps));
   due = tt;
 }
+
+-- ---- There is always a list
+
+-- the same ends with this controller, which stands for these
+pub with_controller : (c : Coupled) (controller : Controller) (h : Header) (offered later : List Request) (idle rest : ℕ) (steps : List Step)
+    → Keeps c h offered idle steps → ControllerFor h controller later rest (with_pending (option_map step_of c.pending) (controller_steps steps))
+    → Keeps (record { controller = controller; device = c.device; pending = c.pending; alert = c.alert }) h later rest steps
+with_controller c controller h offered later idle rest steps s t = record { controller = t; device = s.device; alert = s.alert; due = s.due }
+
+-- the same ends with this device, which stands for the list
+pub with_device : (c : Coupled) (device : DeviceHeld) (h : Header) (offered : List Request) (idle : ℕ) (steps : List Step)
+    → Keeps c h offered idle steps → DeviceFor device h (device_steps steps)
+    → Keeps (record { controller = c.controller; device = device; pending = c.pending; alert = c.alert }) h offered idle steps
+with_device c device h offered idle steps s t = record { controller = s.controller; device = t; alert = s.alert; due = s.due }
+
+-- the same ends with this device, of which one more bit was turned
+pub with_bit : (c : Coupled) (device : DeviceHeld) (h : Header) (offered : List Request) (idle : ℕ) (steps : List Step) (place : Place) (at bit : ℕ)
+    → Keeps c h offered idle steps → DeviceFor device h (device_steps (Flips place at bit ∷ steps))
+    → Keeps (record { controller = c.controller; device = device; pending = c.pending; alert = c.alert }) h offered idle (Flips place at bit ∷ steps)
+with_bit c device h offered idle steps place at bit s t = record { controller = s.controller; device = t; alert = s.alert; due = s.due }
+
+-- a request that was taken is one more, and one that came back leaves all as it was
+pub offered_some : {T E : Type 0} (r : Result T E) (c : Coupled) (controller : Controller) (request : Request)
+    → IfOk r (λ id. (h : Header) (offered : List Request) (idle : ℕ) (log : List NumberedStep) → ControllerFor h c.controller offered idle log → ControllerFor h controller (offered ++ request ∷ []) idle log)
+    → OnErr r (controller ≡ c.controller) → StandsForSome c
+    → StandsForSome (record { controller = controller; device = c.device; pending = c.pending; alert = c.alert })
+unfolding StandsFor
+offered_some (Ok id) c controller request taken back some =
+    ∥∥₁_map some (λ m. (
+      m.0,
+      m.1 ++ request ∷ [],
+      m.2,
+      m.3,
+      with_controller c controller m.0 m.1 (m.1 ++ request ∷ []) m.2 m.2 m.3 m.4
+          (taken m.0 m.1 m.2 (with_pending (option_map step_of c.pending) (controller_steps m.3)) m.4.controller),
+    ))
+offered_some (Err e) c controller request taken back some =
+    ∥∥₁_map some (λ m. (
+      m.0,
+      m.1,
+      m.2,
+      m.3,
+      with_controller c controller m.0 m.1 m.1 m.2 m.2 m.3 m.4
+          (subst (λ (x : Controller). ControllerFor m.0 x m.1 m.2 (with_pending (option_map step_of c.pending) (controller_steps m.3))) (sym back) m.4.controller),
+    ))
+
+-- a device that is as it was stands for the lists that it stood for
+abbrev pub StaysLaw : Type 0
+StaysLaw = (old new : DeviceHeld) (h : Header) (steps : List DeviceStep) → IsUnchanged old new → DeviceFor old h steps → DeviceFor new h steps
+
+pub same_device : (law : StaysLaw) (c : Coupled) (device : DeviceHeld) → IsUnchanged c.device device → StandsForSome c
+    → StandsForSome (record { controller = c.controller; device = device; pending = c.pending; alert = c.alert })
+unfolding StandsFor
+same_device law c device same some =
+    ∥∥₁_map some (λ m. (m.0, m.1, m.2, m.3, with_device c device m.0 m.1 m.2 m.3 m.4 (law c.device device m.0 (device_steps m.3) same m.4.device)))
+
+-- the header under which a controller stands is the one that it holds
+abbrev pub HeldLaw : Type 0
+HeldLaw = (h : Header) (c : Controller) (offered : List Request) (idle : ℕ) (log : List NumberedStep) → ControllerFor h c offered idle log → controller_header c ≡ h
+
+-- so a bit of the header that it holds is one of the list's
+pub bit_of : (law : HeldLaw) (c : Coupled) (h : Header) (offered : List Request) (idle : ℕ) (steps : List Step) (place : Place) (at bit : ℕ)
+    → Keeps c h offered idle steps → IsBit (controller_header c.controller) place at bit → IsBit h place at bit
+bit_of law c h offered idle steps place at bit s is =
+    subst (λ (x : Header). IsBit x place at bit) (law h c.controller offered idle (with_pending (option_map step_of c.pending) (controller_steps steps)) s.controller) is
+
+-- a turned bit makes the list longer, and want of memory leaves it
+pub flipped_some : {T E : Type 0} (r : Result T E) (stays : StaysLaw) (held : HeldLaw) (c : Coupled) (device : DeviceHeld) (place : Place) (at bit : ℕ)
+    → OnOk r ((h : Header) (steps : List DeviceStep) → DeviceFor c.device h steps → IsBit h place at bit → DeviceFor device h (Turns place at bit ∷ steps))
+    → OnErr r (IsUnchanged c.device device) → IsBit (controller_header c.controller) place at bit → StandsForSome c
+    → StandsForSome (record { controller = c.controller; device = device; pending = c.pending; alert = c.alert })
+unfolding StandsFor
+flipped_some (Ok x) stays held c device place at bit turned same is some =
+    ∥∥₁_map some (λ m. (
+      m.0,
+      m.1,
+      m.2,
+      Flips place at bit ∷ m.3,
+      with_bit c device m.0 m.1 m.2 m.3 place at bit m.4 (turned m.0 (device_steps m.3) m.4.device (bit_of held c m.0 m.1 m.2 m.3 place at bit m.4 is)),
+    ))
+flipped_some (Err e) stays held c device place at bit turned same is some = same_device stays c device same some
+
+pub flipped : {T E : Type 0} (r : Result T E) (held : HeldLaw) (c : Coupled) (device : DeviceHeld) (place : Place) (at bit : ℕ)
+    → OnOk r ((h : Header) (steps : List DeviceStep) → DeviceFor c.device h steps → IsBit h place at bit → DeviceFor device h (Turns place at bit ∷ steps))
+    → IsBit (controller_header c.controller) place at bit
+    → OnOk r ((h : Header) (offered : List Request) (idle : ℕ) (steps : List Step) → StandsFor c h offered idle steps
+        → StandsFor (record { controller = c.controller; device = device; pending = c.pending; alert = c.alert }) h offered idle (Flips place at bit ∷ steps))
+unfolding StandsFor
+flipped (Ok x) held c device place at bit turned is = λ h offered idle steps s.
+    with_bit c device h offered idle steps place at bit s (turned h (device_steps steps) s.device (bit_of held c h offered idle steps place at bit s is))
+flipped (Err e) held c device place at bit turned is = tt
+
+-- where memory is wanting, every list that was stood for is stood for still
+pub unchanged : {T E : Type 0} (r : Result T E) (stays : StaysLaw) (c : Coupled) (device : DeviceHeld) → OnErr r (IsUnchanged c.device device)
+    → OnErr r ((h : Header) (offered : List Request) (idle : ℕ) (steps : List Step) → StandsFor c h offered idle steps
+        → StandsFor (record { controller = c.controller; device = device; pending = c.pending; alert = c.alert }) h offered idle steps)
+unfolding StandsFor
+unchanged (Ok x) stays c device same = tt
+unchanged (Err e) stays c device same = λ h offered idle steps s.
+    with_device c device h offered idle steps s (stays c.device device h (device_steps steps) same s.device)
+
+-- whatever a turn answers, both ends stand for a list behind it
+pub stands_after : (turn : Turn) (from until : ℕ) (finished : Bool) (h : Header) (new : Coupled) (offered : List Request) (idle : ℕ) (steps : List Step)
+    → After turn from until finished h new offered idle steps → StandsFor new h offered idle steps
+stands_after (Issue clock command id) from until finished h new offered idle steps t = t.stands
+stands_after Idle from until finished h new offered idle steps t = t.0.stands
+stands_after Done from until finished h new offered idle steps t = t.0.stands

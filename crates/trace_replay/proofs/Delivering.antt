@@ -25,7 +25,7 @@ use Rattle.trace_replay.specs.Counts.{counts_of}
 use Rattle.trace_replay.specs.Held.{Kept, Has}
 use Rattle.trace_replay.specs.Progress.{following, passing, kept_of, bytes_at, outcome_with, noted, AreOf, BothStand, IsAhead, Holds, IsIssuing, IsDelivered}
 use Rattle.trace_replay.specs.declared.counts.Counts.{Counts}
-use Rattle.trace_replay.specs.declared.coupled.Coupled.{Coupled}
+use Rattle.trace_replay.specs.declared.ends.Ends.{Ends as Coupled}
 use Rattle.trace_replay.specs.declared.progress.Ahead.{Ahead}
 use Rattle.trace_replay.specs.declared.progress.Ahead.TheVariants.{Unknown, Waits, Passes, End, Refused}
 use Rattle.trace_replay.specs.declared.progress.Progress.{Progress}

@@ -21,7 +21,7 @@ use Rattle.reports.specs.Offered.{offered, controller_steps}
 use Rattle.reports.specs.Sound.{IsShort, IsRun}
 use Rattle.reports.specs.Underway.{Ended, IsUnderway, IsOffered, IsStopped, IsEnded}
 use Rattle.trace_replay.specs.Coupled.{After, Rests, controller_of, from_of, until_of, finished_of, log_of as delivered_log}
-use Rattle.trace_replay.specs.declared.coupled.Coupled.{Coupled}
+use Rattle.trace_replay.specs.declared.ends.Ends.{Ends as Coupled}
 use Rattle.trace_replay.specs.Reading.{IsRead}
 use Rattle.trace_replay.specs.Progress.{following, passing, IsKnown, IsAhead, Holds, IsResting, IsAtRest, IsUnder, IsOver}
 use Rattle.trace_replay.specs.Turning.{IsSpelled, IsDone, Turned}

@@ -27,7 +27,7 @@ use Rattle.reports.specs.Offered.{offered, controller_steps}
 use Rattle.reports.specs.Report.{report, latest}
 use Rattle.reports.specs.Underway.{Ahead as Following, IsUnderway, IsOffered, IsIssued, issue}
 use Rattle.trace_replay.specs.Coupled.{Step, StandsFor, Issues, IsDue, controller_of, pending_of, with_pending, issued_as, from_of, until_of, finished_of, log_of as delivered_log, controller_steps as numbered_steps}
-use Rattle.trace_replay.specs.declared.coupled.Coupled.{Coupled}
+use Rattle.trace_replay.specs.declared.ends.Ends.{Ends as Coupled}
 use Rattle.trace_replay.specs.Reading.{IsRead, IsFront}
 use Rattle.trace_replay.specs.Progress.{following, passing, Holds, IsAhead, IsIssuing, IsUnder, IsBegun, left_of, rest_of}
 use Rattle.trace_replay.specs.declared.progress.Ahead.{Ahead}

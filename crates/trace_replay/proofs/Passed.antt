@@ -4,7 +4,7 @@ use Rattle.std.specs.List.{flat_map}
 use Rattle.std.specs.Io.KnownBytes.{Appends}
 use Rattle.std.proofs.KnownBytes.{Appends-trans}
 use Rattle.std.proofs.lemmas.List.Sums.{sum_by-append}
-use Rattle.speed_bin.specs.Header.{IsAccepted, shape_of}
+use Rattle.speed_bin.specs.Header.{shape_of}
 use Rattle.speed_bin.specs.declared.header.Header.{Header}
 use Rattle.ddr_io.specs.Sink.{AppendsPrefix}
 use Rattle.ddr_text.specs.Spelling.{spelled}
@@ -19,19 +19,19 @@ use Rattle.trace_replay.proofs.Fronts.{front-with}
 use Rattle.ddr_text.proofs.Prefixes.{prefix-behind}
 use Rattle.trace_replay.proofs.Taken.{NoneHeld, get-last, InsideMore, StepsLonger, Laws-longer, ReportLonger, Parts, requests-more_of, kept-longer}
 use Rattle.reports.specs.Barriers.{idle_clocks}
-use Rattle.reports.specs.Delivered.{AreInside, device_steps}
+use Rattle.reports.specs.Delivered.{device_steps}
 use Rattle.reports.specs.Report.{report, latest}
 use Rattle.speed_bin.specs.Log.{last_clock}
 use Rattle.device_core.specs.Standing.{IsBit}
 use Rattle.device_core.specs.Steps.{Flips as Turned}
-use Rattle.command_words.specs.Place.{place_of}
+use Rattle.command_words.specs.Place.{IsInside, place_of}
 use Rattle.command_words.specs.declared.geometry.Place.{Place}
 use Rattle.ddr_text.specs.declared.lines.ReportLine.TheVariants.{Flip as FlipLine}
 use Rattle.std.proofs.lemmas.Grind.{flat_map-append}
 use Rattle.reports.specs.Offered.{offered, controller_steps}
 use Rattle.reports.specs.Underway.{Ahead as Following, Unknown as UnknownLine, Next as NextLine, Ended, IsUnderway}
 use Rattle.trace_replay.specs.Coupled.{Step, Flips as Turns, StandsFor, pending_of, from_of, until_of, finished_of}
-use Rattle.trace_replay.specs.declared.coupled.Coupled.{Coupled}
+use Rattle.trace_replay.specs.declared.ends.Ends.{Ends as Coupled}
 use Rattle.trace_replay.specs.Job.{MOST, IsTrace}
 use Rattle.trace_replay.specs.Reading.{IsMore, IsRead}
 use Rattle.trace_replay.specs.Progress.{following, passing, taken, kept_as, kept_of, Follows, Holds, IsUnder, IsResting, IsAtRest, IsBegun, IsAhead, rest_of, left_of}
@@ -263,7 +263,6 @@ pub record FlipLaws : Type 0 where
   pub parts : Parts
   pub none_held : NoneHeld
   pub turns : (h : Header) (trace : List TraceLine) (run : Run) (number line device bit : ℕ) → slice_get trace (number - 1) ≡ Some (Flip line device bit) → device_steps h trace (Flips number ∷ run) ≡ Turned (place_of line (shape_of h)) device bit ∷ device_steps h trace run
-  pub bits : (h : Header) (trace : List TraceLine) (number line device bit : ℕ) → IsAccepted h → AreInside (shape_of h) trace → slice_get trace (number - 1) ≡ Some (Flip line device bit) → IsBit h (place_of line (shape_of h)) device bit
 
 pub flip-traced : FlipLaws → (h : Header) (p : Progress) (trace : List TraceLine) (run : Run) (line device bit : ℕ) → Follows h p trace run → IsMore (shape_of h) p.tally (Flip line device bit) → IsTrace (shape_of h) (trace ++ Flip line device bit ∷ [])
 flip-traced laws h p trace run line device bit f m = record {
@@ -277,8 +276,16 @@ flip-more h p trace run line device bit e f =
     let was : IsAhead p trace run h f.now (Waits (Flip line device bit)) = subst (λ v. IsAhead p trace run h f.now v) e f.ahead in
     subst (λ g. IsMore g p.tally (Flip line device bit)) f.geometry was.1
 
+-- its bit is one of the header that both ends hold
+pub flip-bit : (h : Header) (p : Progress) (trace : List TraceLine) (run : Run) (own : Header) (place : Place) (line device bit : ℕ) → own ≡ h → p.ahead ≡ Waits (Flip line device bit) → IsInside place p.g → Follows h p trace run
+    → IsBit own place device bit
+flip-bit h p trace run own place line device bit same e inside f =
+    let more = flip-more h p trace run line device bit e f in
+    subst (λ (x : Header). IsBit x place device bit) (sym same)
+    (record { inside = subst (λ g. IsInside place g) f.geometry inside; of_four = more.inside.1; in_word = more.inside.2 })
+
 pub flip-holds : FlipLaws → (h : Header) (p : Progress) (turned : Coupled) (place : Place) (trace : List TraceLine) (run : Run) (line device bit : ℕ) → p.ahead ≡ Waits (Flip line device bit) → place ≡ place_of line p.g
-    → ((offers : List Asked) (idle : ℕ) (steps : List Step) → StandsFor p.coupled h offers idle steps → IsBit h place device bit → StandsFor turned h offers idle (Turns place device bit ∷ steps))
+    → ((offers : List Asked) (idle : ℕ) (steps : List Step) → StandsFor p.coupled h offers idle steps → StandsFor turned h offers idle (Turns place device bit ∷ steps))
     → pending_of turned ≡ pending_of p.coupled → from_of turned ≡ from_of p.coupled → finished_of turned ≡ finished_of p.coupled → IsResting h p trace run
     → Holds h (taken (record p { coupled = turned }) 0) (trace ++ Flip line device bit ∷ []) (Flips (1 + length trace) ∷ run)
 flip-holds laws h p turned place trace run line device bit e at stands pending from finished a =
@@ -290,7 +297,6 @@ flip-holds laws h p turned place trace run line device bit e at stands pending f
     let under : IsUnderway h trace f.done f.now run (NextLine (Flip line device bit)) = subst (λ v. IsUnderway h trace f.done f.now run (following v)) e f.underway in
     let here : slice_get (trace ++ Flip line device bit ∷ []) (1 + length trace - 1) ≡ Some (Flip line device bit) = get-last trace (Flip line device bit) (1 + length trace - 1) (omega arith) in
     let placed : place ≡ place_of line (shape_of h) = at ∙ ap (place_of line) f.geometry in
-    let bit_is : IsBit h place device bit = subst (λ v. IsBit h v device bit) (sym placed) (laws.bits h (trace ++ Flip line device bit ∷ []) (1 + length trace) line device bit f.accepted traced.inside here) in
     let total : p.tally.clocks + passing p.ahead ≡ p.tally.clocks + 0 + 0 = let z : passing p.ahead ≡ 0 = ap passing e in omega (arith, z) in
     let none : held (requests trace) run ≡ [] = laws.none_held h trace run f.underway.sound a.none_waits in
     let all : requests (trace ++ Flip line device bit ∷ []) ≡ requests trace = requests-more_of 1 trace (Flip line device bit) (1 + length trace) refl ∙ append-nil (requests trace) in
@@ -322,7 +328,7 @@ flip-holds laws h p turned place trace run line device bit e at stands pending f
         };
         stands = subst (λ n. StandsFor turned h (offered (trace ++ Flip line device bit ∷ [])) n (Turns place device bit ∷ k.both.steps)) total
             (subst (λ offers. StandsFor turned h offers (p.tally.clocks + passing p.ahead) (Turns place device bit ∷ k.both.steps)) (sym (laws.offers trace line device bit))
-            (stands (offered trace) (p.tally.clocks + passing p.ahead) k.both.steps k.both.stands bit_is));
+            (stands (offered trace) (p.tally.clocks + passing p.ahead) k.both.steps k.both.stands));
       };
       none_pending = pending ∙ k.none_pending;
       last = k.last;
@@ -341,7 +347,7 @@ flip-report laws h p trace run line device bit k =
 
 -- the F line is done, and its report line was written
 pub flip-under : FlipLaws → (h : Header) (p : Progress) (turned : Coupled) (place : Place) (line device bit : ℕ) (start left before written after : Option (List ℕ)) → p.ahead ≡ Waits (Flip line device bit) → place ≡ place_of line p.g
-    → ((offers : List Asked) (idle : ℕ) (steps : List Step) → StandsFor p.coupled h offers idle steps → IsBit h place device bit → StandsFor turned h offers idle (Turns place device bit ∷ steps))
+    → ((offers : List Asked) (idle : ℕ) (steps : List Step) → StandsFor p.coupled h offers idle steps → StandsFor turned h offers idle (Turns place device bit ∷ steps))
     → pending_of turned ≡ pending_of p.coupled → from_of turned ≡ from_of p.coupled → finished_of turned ≡ finished_of p.coupled
     → Appends written after (spelled (FlipLine p.last line device bit)) → IsAtRest h p start left before written → IsUnder h (taken (record p { coupled = turned }) 0) start left before after
 flip-under laws h p turned place line device bit start left before written after e at stands pending from finished wrote a =

@@ -3,7 +3,7 @@ use Rattle.std.proofs.Common.{◌≡◌, ◌∙◌, ℕ, zero, suc, ◌+◌, ◌
 use Rattle.std.specs.List.{flat_map}
 use Rattle.std.specs.Io.KnownBytes.{Appends}
 use Rattle.std.proofs.lemmas.List.{map-append}
-use Rattle.command_words.specs.Geometry.{Shape}
+use Rattle.command_words.specs.Geometry.{Shape, lines_of}
 use Rattle.speed_bin.specs.declared.header.Header.{Header}
 use Rattle.device_core.specs.Steps.{Step as DeviceStep}
 use Rattle.device_core.specs.Stored.{changes_of, reading}
@@ -29,11 +29,11 @@ use Rattle.scheduler.specs.declared.state.State.{State as Controller}
 use Rattle.trace_replay.specs.Coupled.{Step, StandsFor, pending_of, controller_of, with_pending, from_of, finished_of, controller_steps as numbered_steps}
 use Rattle.trace_replay.proofs.Under.{Agrees}
 use Rattle.trace_replay.specs.declared.trace_lines.Tally.{Tally}
-use Rattle.trace_replay.specs.declared.coupled.Coupled.{Coupled}
+use Rattle.trace_replay.specs.declared.ends.Ends.{Ends as Coupled}
 use Rattle.trace_replay.specs.Held.{Kept, next_of}
 use Rattle.trace_replay.specs.Job.{IsTrace}
 use Rattle.trace_replay.specs.Reading.{IsTally, IsMore, IsRead}
-use Rattle.trace_replay.specs.Progress.{outcome_of, Asks, taken, following, passing, kept_as, kept_of, Follows, Holds, IsUnder, IsAhead}
+use Rattle.trace_replay.specs.Progress.{outcome_of, Asks, IsAsked, taken, following, passing, kept_as, kept_of, Follows, Holds, IsUnder, IsAhead}
 use Rattle.trace_replay.specs.declared.held.Outcome.TheVariants.{Waits as Unserved}
 use Rattle.trace_replay.specs.declared.progress.Ahead.{Ahead}
 use Rattle.trace_replay.specs.declared.progress.Ahead.TheVariants.{Unknown, Waits, Passes, End, Refused}
@@ -281,6 +281,21 @@ kept-more laws h p trace run t request bytes k asks sound is =
     ∙ ap (λ v. record { first = length (ready (requests trace) run) + 1; items = map (kept_as h (trace ++ t ∷ []) run) (held (requests trace) run) ++ v ∷ [] }) new
     ∙ ap (λ l. record { first = length (ready (requests trace) run) + 1; items = l }) (sym (map-append (kept_as h (trace ++ t ∷ []) run) (held (requests trace) run) (r ∷ [])) ∙ ap (map (kept_as h (trace ++ t ∷ []) run)) (sym more))
     ∙ ap (λ n. kept_of h (trace ++ t ∷ []) run n (held (requests (trace ++ t ∷ [])) run)) first
+
+asked-line : (g : Shape) (t : TraceLine) (request : Asked) (bytes : Option (List ℕ)) → IsInside g t → Asks t request bytes → request.line < lines_of g
+asked-line g (Read line) request bytes inside a = subst (λ n. n < lines_of g) (sym a.0) inside
+asked-line g (Write line brought) request bytes inside a = subst (λ n. n < lines_of g) (sym a.0) inside.0
+asked-line g (Flip line device bit) request bytes inside a = absurd a
+asked-line g (Idle clocks) request bytes inside a = absurd a
+
+-- what the line ahead asks for is a line of the header that both ends hold
+pub asked-inside : (h : Header) (p : Progress) (trace : List TraceLine) (run : Run) (own : Header) (request : Asked) (bytes : Option (List ℕ)) → own ≡ h → Holds h p trace run → IsAsked p.ahead request bytes
+    → request.line < lines_of (shape_of own)
+asked-inside h p trace run own request bytes same k asked =
+    let f = k.follows in
+    let was : IsAhead p trace run h f.now (Waits asked.line) = subst (λ v. IsAhead p trace run h f.now v) asked.waits f.ahead in
+    let more : IsMore (shape_of h) p.tally asked.line = subst (λ g. IsMore g p.tally asked.line) f.geometry was.1 in
+    subst (λ (x : Header). request.line < lines_of (shape_of x)) (sym same) (asked-line (shape_of h) asked.line request bytes more.inside asked.asks)
 
 traced-more : Laws → (g : Shape) (trace : List TraceLine) (t : TraceLine) (tally : Tally) (r : Request) → IsTally tally trace → IsTrace g trace → IsMore g tally t → request_of (1 + length trace) t ≡ r ∷ [] → IsTrace g (trace ++ t ∷ [])
 traced-more laws g trace t tally r y is m e = record {

@@ -19,7 +19,7 @@ use Rattle.scheduler.specs.Controller.{StandsFor as ControllerFor}
 use Rattle.scheduler.specs.declared.state.State.{State as Controller}
 use Rattle.requests.specs.Queue.{Step as NumberedStep}
 use Rattle.trace_replay.specs.Coupled.{Step, StandsFor, pending_of, controller_of, with_pending, finished_of, controller_steps as numbered_steps}
-use Rattle.trace_replay.specs.declared.coupled.Coupled.{Coupled}
+use Rattle.trace_replay.specs.declared.ends.Ends.{Ends as Coupled}
 use Rattle.trace_replay.specs.Job.{MOST, trace_from, trace_of, ended, refused_behind, at_end}
 use Rattle.trace_replay.specs.Reading.{IsTally, IsNext, MayStand, Continues, Ends, IsRead, IsTakenBy}
 use Rattle.trace_replay.specs.Progress.{following, passing, found_as, Holds, IsUnder, IsLeftOff, IsAhead, MayGoOn, tally_with, rest_of, left_of}

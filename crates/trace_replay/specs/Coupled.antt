@@ -12,15 +12,15 @@ use Rattle.requests.specs.Choice.{IsChosen, IsPrompt}
 use Rattle.requests.specs.Queue.{Step as NumberedStep, waiting}
 use Rattle.requests.specs.declared.request.Request.{Request}
 use Rattle.requests.specs.declared.request.RequestId.{RequestId}
-use Rattle.scheduler.specs.Controller.{AtRest, number_of, StandsFor as ControllerFor, from_of as controller_from, until_of as controller_until, finished_of as controller_finished}
+use Rattle.scheduler.specs.Controller.{AtRest, number_of, StandsFor as ControllerFor, header_of as controller_header, from_of as controller_from, until_of as controller_until, finished_of as controller_finished}
 use Rattle.scheduler.specs.declared.state.State.{State as Controller}
 use Rattle.scheduler.specs.declared.turn.Turn.{Turn}
 use Rattle.scheduler.specs.declared.turn.Turn.TheVariants.{Issue, Idle, Done}
 use Rattle.device_core.specs.Standing.{StandsFor as DeviceFor}
 use Rattle.device_core.specs.Steps.{Step as DeviceStep, Issues as Gives, Flips as Turns}
 use Rattle.device_core.specs.Held.{Held as DeviceHeld}
-use Rattle.trace_replay.specs.declared.coupled.Pending.{Pending}
-use Rattle.trace_replay.specs.declared.coupled.Coupled.{Coupled}
+use Rattle.trace_replay.specs.declared.ends.Pending.{Pending}
+use Rattle.trace_replay.specs.declared.ends.Ends.{Ends}
 
 -- ---- The list
 
@@ -85,43 +85,51 @@ IsDueIfAny h log (Some step) = IsDue h log step
 
 -- both ends agree on the list. The controller has issued the pending command already, and the alert that it is told next
 -- is that of the list.
-pub record Keeps (c : Coupled) (h : Header) (offered : List Request) (idle : ℕ) (steps : List Step) : Type 0 where
+pub record Keeps (c : Ends) (h : Header) (offered : List Request) (idle : ℕ) (steps : List Step) : Type 0 where
   pub controller : ControllerFor h c.controller offered idle (with_pending (option_map step_of c.pending) (controller_steps steps))
   pub device : DeviceFor c.device h (device_steps steps)
   pub alert : c.alert ≡ is_some (alert h (log_of steps))
   pub due : IsDueIfAny h (log_of steps) (option_map step_of c.pending)
 
 -- controller and device stand for the list; how is their own affair
-unfoldable pub StandsFor : Coupled → Header → List Request → ℕ → List Step → Type 0
+unfoldable pub StandsFor : Ends → Header → List Request → ℕ → List Step → Type 0
 StandsFor c h offered idle steps = Keeps c h offered idle steps
+
+-- they stand for some list
+abbrev pub StandsForSome : Ends → Type 0
+StandsForSome c = ∥ ((h : Header) × (offered : List Request) × (idle : ℕ) × (steps : List Step) × StandsFor c h offered idle steps) ∥₁
 
 -- ---- What it shows
 
 -- its two ends
-unfoldable pub controller_of : Coupled → Controller
+unfoldable pub controller_of : Ends → Controller
 controller_of c = c.controller
 
-unfoldable pub device_of : Coupled → DeviceHeld
+unfoldable pub device_of : Ends → DeviceHeld
 device_of c = c.device
 
 -- the command that was issued and not delivered yet
-unfoldable pub pending_of : Coupled → Option NumberedStep
+unfoldable pub pending_of : Ends → Option NumberedStep
 pending_of c = option_map step_of c.pending
 
 -- the alert that the controller is told next
-unfoldable pub alert_of : Coupled → Bool
+unfoldable pub alert_of : Ends → Bool
 alert_of c = c.alert
 
+-- the header that it holds
+abbrev pub header_of : Ends → Header
+header_of c = controller_header (controller_of c)
+
 -- the clock before which no more commands come
-abbrev pub from_of : Coupled → ℕ
+abbrev pub from_of : Ends → ℕ
 from_of c = controller_from (controller_of c)
 
 -- the idle target
-abbrev pub until_of : Coupled → ℕ
+abbrev pub until_of : Ends → ℕ
 until_of c = controller_until (controller_of c)
 
 -- no more requests come
-abbrev pub finished_of : Coupled → Bool
+abbrev pub finished_of : Ends → Bool
 finished_of c = controller_finished (controller_of c)
 
 -- a command is pending, and bytes come with it exactly where it is a WR
@@ -139,7 +147,7 @@ issued_in Idle = None
 issued_in Done = None
 
 -- the command that a turn issued is pending
-pub record Issues (clock : ℕ) (command : Command) (id : Option RequestId) (from until : ℕ) (finished : Bool) (h : Header) (new : Coupled) (offered : List Request) (idle : ℕ) (steps : List Step) : Type 0 where
+pub record Issues (clock : ℕ) (command : Command) (id : Option RequestId) (from until : ℕ) (finished : Bool) (h : Header) (new : Ends) (offered : List Request) (idle : ℕ) (steps : List Step) : Type 0 where
   -- it comes no sooner than the turn began
   pub late : from ≤ clock
   -- the device may be given it: all fourteen rules hold at its place
@@ -156,14 +164,14 @@ pub record Issues (clock : ℕ) (command : Command) (id : Option RequestId) (fro
   pub is_pending : pending_of new ≡ Some (issued_as clock command id)
 
 -- a turn that issued nothing
-pub record Rests (from until : ℕ) (h : Header) (new : Coupled) (offered : List Request) (idle : ℕ) (steps : List Step) : Type 0 where
+pub record Rests (from until : ℕ) (h : Header) (new : Ends) (offered : List Request) (idle : ℕ) (steps : List Step) : Type 0 where
   pub rest : AtRest h (max from until) offered (controller_steps steps)
   pub now : from_of new ≡ max from until
   pub stands : StandsFor new h offered idle steps
   pub none_pending : pending_of new ≡ None
 
 -- what a turn leaves that began with this least clock, this idle target, and this announcement of the end
-abbrev pub After : Turn → ℕ → ℕ → Bool → Header → Coupled → List Request → ℕ → List Step → Type 0
+abbrev pub After : Turn → ℕ → ℕ → Bool → Header → Ends → List Request → ℕ → List Step → Type 0
 After (Issue clock command id) from until finished h new offered idle steps = Issues clock command id from until finished h new offered idle steps
 After Idle from until finished h new offered idle steps = Rests from until h new offered idle steps × (finished ≡ false)
 After Done from until finished h new offered idle steps = Rests from until h new offered idle steps × (finished ≡ true) × (broken_at_end h (max from until) (log_of steps) ≡ None)

@@ -21,7 +21,7 @@ use Rattle.reports.specs.Runs.{Run, Served, Step as RunStep, Issues, IsNext, log
 use Rattle.reports.specs.Sound.{Sound, IsSoundPlace}
 use Rattle.reports.specs.Underway.{Ahead as Following, IsUnderway, IsIssued, issue}
 use Rattle.trace_replay.specs.Coupled.{Step, StandsFor, controller_of, pending_of, with_pending, controller_steps as numbered_steps}
-use Rattle.trace_replay.specs.declared.coupled.Coupled.{Coupled}
+use Rattle.trace_replay.specs.declared.ends.Ends.{Ends as Coupled}
 
 pub record DeliveryLaws : Type 0 where
   pub agrees : (c : Coupled) (h : Header) (offers : List Asked) (idle : ℕ) (steps : List Step) → StandsFor c h offers idle steps → ControllerFor h (controller_of c) offers idle (with_pending (pending_of c) (numbered_steps steps))

@@ -1,7 +1,6 @@
 pub mod Counts
 pub mod Coupled
 pub mod Delivery
-pub mod Driving
 pub mod Ending
 pub mod Held
 pub mod Job

@@ -122,6 +122,7 @@ impl Progress {
         reports::laws::gives_to_a_device();
         reports::laws::rests_on_the_lines_so_far();
         reports::laws::takes_from_the_held();
+        Coupled::agrees();
         match self.coupled.flip(map_line(line, self.g), device, bit) {
             Ok(()) => {
                 self.take_line(0);

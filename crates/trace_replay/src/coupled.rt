@@ -1,5 +1,5 @@
-//! Both ends of the bus: one controller, one device, and the command that is on its way.
-ghost use Rattle.std.specs.Prelude.{ℕ, ◌≡◌, ◌+◌, ◌<◌, ◌≤◌, ◌^◌, ◌++◌, ◌↔◌, List, [], ◌∷◌, Option, Some, None, length, max, is_some, option_map, true, false, IfOk, IfErr, OnOk, OnErr, IsErr, IsTrue};
+//! Both ends of the bus: what is asked of them.
+ghost use Rattle.std.specs.Prelude.{ℕ, ◌≡◌, ◌+◌, ◌<◌, ◌≤◌, ◌^◌, ◌++◌, ◌↔◌, List, [], ◌∷◌, Option, Some, None, length, max, is_some, true, false, IfOk, IfErr, OnOk, OnErr, IsErr, IsTrue};
 ghost use Rattle.command_words.specs.Geometry.{lines_of};
 ghost use Rattle.speed_bin.specs.Alert.{alert as alert_after};
 ghost use Rattle.speed_bin.specs.Counts.{peak as peak_after};
@@ -12,10 +12,11 @@ ghost use Rattle.scheduler.specs.Controller.{StandsFor as ControllerFor};
 ghost use Rattle.device_core.specs.Standing.{StandsFor as DeviceFor, IsBit, lent};
 ghost use Rattle.device_core.specs.Steps.{log_of as device_log};
 ghost use Rattle.device_core.specs.Stored.{answer, scrub_counts as scrub_counts_after};
-ghost use Rattle.trace_replay.specs.Coupled.{Step, Flips, log_of, controller_steps, device_steps, with_pending, delivered, step_of, issued_in};
-ghost use Rattle.trace_replay.specs.declared.coupled.Coupled.{Coupled as AnyCoupled};
+ghost use Rattle.trace_replay.specs.Coupled.{Step, Flips, log_of, controller_steps, device_steps, with_pending, delivered, issued_in};
+ghost use Rattle.trace_replay.specs.declared.ends.Ends.{Ends as AnyCoupled};
 
-use command_words::{Command, Place, encode};
+use crate::ends::{Ends, pending_in};
+use command_words::{Place, encode};
 use ddr_io::OutOfMemory;
 use device_core::{Device, Reply};
 use error_scrub::ScrubCounts;
@@ -23,60 +24,52 @@ use requests::{Request, RequestId};
 use scheduler::{Clock, Controller, Turn};
 use speed_bin::Header;
 use std::alloc::Global;
-
-// A command that was issued and not delivered yet.
-#[derive(Clone, Copy, Debug)]
-pub(crate) struct Pending {
-    pub(crate) clock: Clock,
-    pub(crate) command: Command,
-    pub(crate) id: Option<RequestId>,
-}
-
-// The command that a turn answers.
-fn pending_in(turn: &Turn) -> Option<Pending>
-    ensures { option_map step_of result ≡ issued_in turn.now }
-{
-    match turn {
-        Turn::Issue(clock, command, id) => Some(Pending {
-            clock: *clock,
-            command: *command,
-            id: *id,
-        }),
-        Turn::Idle => None,
-        Turn::Done => None,
-    }
-}
+use std::marker::Model;
 
 /// One controller and one device. Both agree on one list: the device stands for it, and the controller for that list and
-/// the command that is pending, if one is.
+/// the command that is pending, if one is. It keeps no such list, and yet there is always one for which it stands, under the
+/// header that it holds, so that what is asked of it speaks of no list.
 #[derive(Drop)]
 pub struct Coupled {
-    controller: Controller,
-    device: Device,
-    pending: Option<Pending>,
-    // the device's last answer
-    alert: bool,
+    ends: Ends,
+}
+
+impl Model for Coupled {
+    ghost use Rattle.trace_replay.specs.Coupled.{StandsForSome};
+    ghost use Rattle.trace_replay.specs.contracts.ends.Ends.{the_row as ends_row};
+    ghost use Rattle.trace_replay.specs.declared.ends.Ends.{Ends};
+
+    ghost Value = { Ends };
+
+    ghost coded = { ends_row.coded };
+
+    ghost view = { λ c. c.ends };
+
+    ghost invariant = { λ c. StandsForSome c.ends };
 }
 
 #[tactic(auto, unfolding(crate::specs::Coupled::StandsFor, crate::specs::Coupled::controller_of, crate::specs::Coupled::device_of, crate::specs::Coupled::pending_of, crate::specs::Coupled::alert_of))]
 impl Coupled {
-    ghost use Rattle.trace_replay.specs.Coupled.{StandsFor, After, IsAwaited, controller_of, device_of, pending_of, alert_of, from_of, until_of, finished_of};
+    ghost use Rattle.trace_replay.specs.Coupled.{StandsFor, StandsForSome, After, IsAwaited, controller_of, device_of, pending_of, alert_of, header_of, from_of, until_of, finished_of};
 
     /// Both before their first command, at clock 0. No command is pending.
     #[inline(never)]
     pub fn new(alloc: Global, header: &Header) -> Result<Coupled, OutOfMemory>
         requires { IsAccepted header.now }
         ensures stands { IfOk result (λ c. StandsFor c header.now [] 0 []) }
+        ensures header { IfOk result (λ c. header_of c ≡ header.now) }
         ensures pending { IfOk result (λ c. pending_of c ≡ None) }
         ensures from { IfOk result (λ c. from_of c ≡ 0) }
         ensures until { IfOk result (λ c. until_of c ≡ 0) }
         ensures finished { IfOk result (λ c. finished_of c ≡ false) }
     {
         Ok(Coupled {
-            controller: Controller::new(alloc, header)?,
-            device: Device::new(alloc, header)?,
-            pending: None,
-            alert: false,
+            ends: Ends {
+                controller: Controller::new(alloc, header)?,
+                device: Device::new(alloc, header)?,
+                pending: None,
+                alert: false,
+            },
         })
     }
 
@@ -85,7 +78,7 @@ impl Coupled {
     /// those of the header's geometry, and `finish` was not called.
     pub fn offer(&mut self, request: Request) -> Result<RequestId, Request>
         requires unfinished { finished_of self.old ≡ false }
-        requires stands { (h : AnyHeader) × (offered : List AnyRequest) × (idle : ℕ) × (steps : List Step) × (StandsFor self.old h offered idle steps) × (request.line < lines_of (shape_of h)) }
+        requires inside { request.line < lines_of (shape_of (header_of self.old)) }
         ensures ok { IfOk result (λ id. (h : AnyHeader) (offered : List AnyRequest) (idle : ℕ) (steps : List Step) → StandsFor self.old h offered idle steps
             → StandsFor self.new h (offered ++ request ∷ []) idle steps) }
         ensures number { IfOk result (λ id. (h : AnyHeader) (offered : List AnyRequest) (idle : ℕ) (steps : List Step) → StandsFor self.old h offered idle steps
@@ -95,12 +88,12 @@ impl Coupled {
         ensures back { IfErr result (λ it. it ≡ request) }
         ensures err { OnErr result (self.new ≡ self.old) }
         ensures pending { pending_of self.new ≡ pending_of self.old }
+        ensures header { header_of self.new ≡ header_of self.old }
         ensures from { from_of self.new ≡ from_of self.old }
         ensures until { until_of self.new ≡ until_of self.old }
         ensures finished { finished_of self.new ≡ finished_of self.old }
     {
-        scheduler::laws::held();
-        self.controller.offer(request)
+        self.ends.controller.offer(request)
     }
 
     /// Lets clocks pass: the idle target is `now` and so many clocks. The last turn was `Idle`, and nothing was offered
@@ -111,10 +104,11 @@ impl Coupled {
             → StandsFor self.new h offered (idle + clocks) steps }
         ensures until { until_of self.new ≡ from_of self.old + clocks }
         ensures pending { pending_of self.new ≡ pending_of self.old }
+        ensures header { header_of self.new ≡ header_of self.old }
         ensures from { from_of self.new ≡ from_of self.old }
         ensures finished { finished_of self.new ≡ finished_of self.old }
     {
-        self.controller.idle(clocks);
+        self.ends.controller.idle(clocks);
     }
 
     /// Says that no more requests come.
@@ -123,17 +117,19 @@ impl Coupled {
             → StandsFor self.new h offered idle steps }
         ensures finished { finished_of self.new ≡ true }
         ensures pending { pending_of self.new ≡ pending_of self.old }
+        ensures header { header_of self.new ≡ header_of self.old }
         ensures from { from_of self.new ≡ from_of self.old }
         ensures until { until_of self.new ≡ until_of self.old }
     {
-        self.controller.finish();
+        self.ends.controller.finish();
     }
 
     /// The clock before which no more commands come.
     pub fn now(&self) -> Clock
-        ensures { result ≡ from_of self.now }
+        ensures value { result ≡ from_of self.now }
+        ensures stands { StandsForSome self.now }
     {
-        self.controller.now()
+        self.ends.controller.now()
     }
 
     /// One turn of the controller, told of the device's alert. A command that it issues is pending then. None is before,
@@ -141,17 +137,18 @@ impl Coupled {
     pub fn turn(&mut self) -> Turn
         requires pending { pending_of self.old ≡ None }
         requires bound { from_of self.old < 2 ^ 47 }
-        requires stands { (h : AnyHeader) × (offered : List AnyRequest) × (idle : ℕ) × (steps : List Step) × StandsFor self.old h offered idle steps }
         ensures after { (h : AnyHeader) (offered : List AnyRequest) (idle : ℕ) (steps : List Step) → StandsFor self.old h offered idle steps
             → After result (from_of self.old) (until_of self.old) (finished_of self.old) h self.new offered idle steps }
+        ensures pending { pending_of self.new ≡ issued_in result }
         ensures bound { from_of self.new ≤ max (from_of self.old) (until_of self.old) + 2 ^ 15 }
+        ensures header { header_of self.new ≡ header_of self.old }
         ensures until { until_of self.new ≡ until_of self.old }
         ensures finished { finished_of self.new ≡ finished_of self.old }
     {
         scheduler::laws::inside();
         scheduler::laws::passed();
-        let turn = self.controller.next(self.alert);
-        self.pending = pending_in(&turn);
+        let turn = self.ends.controller.next(self.ends.alert);
+        self.ends.pending = pending_in(&turn);
         turn
     }
 
@@ -160,7 +157,6 @@ impl Coupled {
     /// the command is pending still, and all is as it was.
     pub fn deliver(&mut self, bytes: Option<&[u8; 64]>) -> Result<Reply, OutOfMemory>
         requires pending { IsAwaited (pending_of self.old) (lent bytes) }
-        requires stands { (h : AnyHeader) × (offered : List AnyRequest) × (idle : ℕ) × (steps : List Step) × StandsFor self.old h offered idle steps }
         ensures stands { OnOk result ((h : AnyHeader) (offered : List AnyRequest) (idle : ℕ) (steps : List Step) (step : NumberedStep) → StandsFor self.old h offered idle steps
             → pending_of self.old ≡ Some step → StandsFor self.new h offered idle (delivered step (lent bytes.entry) ∷ steps)) }
         ensures line { IfOk result (λ reply. (h : AnyHeader) (offered : List AnyRequest) (idle : ℕ) (steps : List Step) (step : NumberedStep) → StandsFor self.old h offered idle steps
@@ -172,35 +168,38 @@ impl Coupled {
         ensures still { OnErr result (pending_of self.new ≡ pending_of self.old) }
         ensures unchanged { OnErr result ((h : AnyHeader) (offered : List AnyRequest) (idle : ℕ) (steps : List Step) → StandsFor self.old h offered idle steps
             → StandsFor self.new h offered idle steps) }
+        ensures header { header_of self.new ≡ header_of self.old }
         ensures from { from_of self.new ≡ from_of self.old }
         ensures until { until_of self.new ≡ until_of self.old }
         ensures finished { finished_of self.new ≡ finished_of self.old }
     {
         Device::unchanged_stands();
-        let pending = self.pending.as_ref().unwrap();
+        let pending = self.ends.pending.as_ref().unwrap();
         let clock = pending.clock;
         let words = encode(&pending.command);
-        let reply = self.device.step(clock, words, bytes)?;
-        self.alert = reply.alert;
-        self.pending = None;
+        let reply = self.ends.device.step(clock, words, bytes)?;
+        self.ends.alert = reply.alert;
+        self.ends.pending = None;
         Ok(reply)
     }
 
     /// Turns one bit of one device's codeword. The device is below 4, the bit below 136. Where there is no memory, all is
     /// as it was.
     pub fn flip(&mut self, place: Place, device: u8, bit: u8) -> Result<(), OutOfMemory>
-        requires { (h : AnyHeader) × (offered : List AnyRequest) × (idle : ℕ) × (steps : List Step) × (StandsFor self.old h offered idle steps) × IsBit h place device bit }
-        ensures stands { OnOk result ((h : AnyHeader) (offered : List AnyRequest) (idle : ℕ) (steps : List Step) → StandsFor self.old h offered idle steps → IsBit h place device bit
+        requires { IsBit (header_of self.old) place device bit }
+        ensures stands { OnOk result ((h : AnyHeader) (offered : List AnyRequest) (idle : ℕ) (steps : List Step) → StandsFor self.old h offered idle steps
             → StandsFor self.new h offered idle (Flips place device bit ∷ steps)) }
         ensures unchanged { OnErr result ((h : AnyHeader) (offered : List AnyRequest) (idle : ℕ) (steps : List Step) → StandsFor self.old h offered idle steps
             → StandsFor self.new h offered idle steps) }
         ensures pending { pending_of self.new ≡ pending_of self.old }
+        ensures header { header_of self.new ≡ header_of self.old }
         ensures from { from_of self.new ≡ from_of self.old }
         ensures until { until_of self.new ≡ until_of self.old }
         ensures finished { finished_of self.new ≡ finished_of self.old }
     {
         Device::unchanged_stands();
-        self.device.flip(place, device, bit)
+        scheduler::laws::held();
+        self.ends.device.flip(place, device, bit)
     }
 
     /// What the scrub found so far.
@@ -208,7 +207,7 @@ impl Coupled {
         ensures { (h : AnyHeader) (offered : List AnyRequest) (idle : ℕ) (steps : List Step) → StandsFor self.now h offered idle steps
             → result ≡ scrub_counts_after h (device_steps steps) }
     {
-        self.device.scrub_counts()
+        self.ends.device.scrub_counts()
     }
 
     /// The greatest number of activations since mitigation that a row had so far, the activation of an open row
@@ -218,11 +217,11 @@ impl Coupled {
             → result ≡ peak_after h (log_of steps) }
         ensures bounded { (h : AnyHeader) (offered : List AnyRequest) (idle : ℕ) (steps : List Step) → StandsFor self.now h offered idle steps → result ≤ bound h }
     {
-        self.device.peak()
+        self.ends.device.peak()
     }
 
-    /// A law: the controller stands for the list with the pending command, the device for the list, and the alert of the
-    /// next turn is that of the list.
+    /// A law: the controller stands for the list with the pending command, the device for the list, the alert of the next
+    /// turn is that of the list, and the header is the one that it holds.
     pub fn agrees()
         ensures controller { (c : AnyCoupled) (h : AnyHeader) (offered : List AnyRequest) (idle : ℕ) (steps : List Step) → StandsFor c h offered idle steps
             → ControllerFor h (controller_of c) offered idle (with_pending (pending_of c) (controller_steps steps)) }
@@ -230,7 +229,11 @@ impl Coupled {
             → DeviceFor (device_of c) h (device_steps steps) }
         ensures alert { (c : AnyCoupled) (h : AnyHeader) (offered : List AnyRequest) (idle : ℕ) (steps : List Step) → StandsFor c h offered idle steps
             → alert_of c ≡ is_some (alert_after h (log_of steps)) }
-    {}
+        ensures header { (c : AnyCoupled) (h : AnyHeader) (offered : List AnyRequest) (idle : ℕ) (steps : List Step) → StandsFor c h offered idle steps
+            → header_of c ≡ h }
+    {
+        scheduler::laws::held();
+    }
 
     /// A law: the two lists are of one log.
     pub fn one_log()

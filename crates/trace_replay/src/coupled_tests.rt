@@ -3,8 +3,7 @@ ghost use Rattle.std.specs.Prelude.{◌≡◌, ◌<◌, None, false, is_some, On
 ghost use Rattle.speed_bin.specs.Header.{IsAccepted};
 ghost use Rattle.command_words.specs.Kinds.{is_wr};
 ghost use Rattle.device_core.specs.Standing.{lent};
-ghost use Rattle.trace_replay.specs.Coupled.{finished_of, pending_of};
-ghost use Rattle.trace_replay.specs.Driving.{IsDriven};
+ghost use Rattle.trace_replay.specs.Coupled.{finished_of, header_of, pending_of};
 
 use crate::Coupled;
 use command_words::{Command, LineAddr, encode, map_line};
@@ -55,8 +54,8 @@ fn line_of(first: u8) -> [u8; 64] {
 fn take(both: &mut Coupled, header: &Header, line: u32, kind: Kind) -> Option<()>
     requires accepted { IsAccepted header.now }
     requires unfinished { finished_of both.old ≡ false }
-    requires driven { IsDriven header.now both.old }
-    ensures driven { IsDriven header.now both.new }
+    requires held { header_of both.old ≡ header.now }
+    ensures held { header_of both.new ≡ header.now }
     ensures pending { pending_of both.new ≡ pending_of both.old }
     ensures finished { finished_of both.new ≡ finished_of both.old }
 {
@@ -70,8 +69,8 @@ fn take(both: &mut Coupled, header: &Header, line: u32, kind: Kind) -> Option<()
 // Turns a bit of line 0.
 fn turn_bit(both: &mut Coupled, header: &Header, of: u8, bit: u8) -> Option<()>
     requires accepted { IsAccepted header.now }
-    requires driven { IsDriven header.now both.old }
-    ensures driven { IsDriven header.now both.new }
+    requires held { header_of both.old ≡ header.now }
+    ensures held { header_of both.new ≡ header.now }
     ensures pending { pending_of both.new ≡ pending_of both.old }
     ensures finished { finished_of both.new ≡ finished_of both.old }
 {
@@ -97,10 +96,9 @@ fn given<'a>(command: &Command, bytes: &'a [u8; 64]) -> Option<&'a [u8; 64]>
 
 // One turn, and the delivery of what it issued. `None` where `now` is not below 2^47 or memory is wanting, and `Some(None)`
 // where the turn issued nothing.
-fn step(both: &mut Coupled, header: &Header, bytes: &[u8; 64]) -> Option<Option<Answer>>
-    requires driven { IsDriven header.now both.old }
+fn step(both: &mut Coupled, bytes: &[u8; 64]) -> Option<Option<Answer>>
     requires pending { pending_of both.old ≡ None }
-    ensures driven { IsDriven header.now both.new }
+    ensures held { header_of both.new ≡ header_of both.old }
     ensures pending { OnSome result (pending_of both.new ≡ None) }
     ensures finished { finished_of both.new ≡ finished_of both.old }
 {
@@ -126,16 +124,15 @@ fn step(both: &mut Coupled, header: &Header, bytes: &[u8; 64]) -> Option<Option<
 
 // Turns until nothing is left to do, and the number of the next command. `None` where a command or a reading is not as it
 // is wanted.
-fn serve(both: &mut Coupled, header: &Header, wanted: &Wanted, place: usize) -> Option<usize>
-    requires driven { IsDriven header.now both.old }
+fn serve(both: &mut Coupled, wanted: &Wanted, place: usize) -> Option<usize>
     requires pending { pending_of both.old ≡ None }
-    ensures driven { IsDriven header.now both.new }
+    ensures held { header_of both.new ≡ header_of both.old }
     ensures pending { OnSome result (pending_of both.new ≡ None) }
     ensures finished { finished_of both.new ≡ finished_of both.old }
 {
     let mut place = place;
     for _ in 0..1000 {
-        let Some(answer) = step(both, header, &wanted.bytes)? else {
+        let Some(answer) = step(both, &wanted.bytes)? else {
             return Some(place);
         };
         if wanted.commands.get(place) != Some(&answer.issued) {
@@ -166,9 +163,9 @@ fn ask(
 ) -> Option<usize>
     requires accepted { IsAccepted header.now }
     requires unfinished { finished_of both.old ≡ false }
-    requires driven { IsDriven header.now both.old }
+    requires held { header_of both.old ≡ header.now }
     requires pending { pending_of both.old ≡ None }
-    ensures driven { IsDriven header.now both.new }
+    ensures held { header_of both.new ≡ header.now }
     ensures pending { OnSome result (pending_of both.new ≡ None) }
     ensures finished { finished_of both.new ≡ finished_of both.old }
 {
@@ -182,17 +179,17 @@ fn ask(
             Some(place)
         }
         Line::Flip(of, bit) => {
-            let place = serve(both, header, wanted, place)?;
+            let place = serve(both, wanted, place)?;
             turn_bit(both, header, *of, *bit)?;
             Some(place)
         }
         Line::Idle(clocks) => {
-            let place = serve(both, header, wanted, place)?;
+            let place = serve(both, wanted, place)?;
             if both.now() >= 1 << 46 || *clocks >= 1 << 46 {
                 return None;
             }
             both.idle(*clocks);
-            serve(both, header, wanted, place)
+            serve(both, wanted, place)
         }
     }
 }
@@ -208,9 +205,9 @@ fn run(alloc: Global, header: &Header, lines: &[Line], wanted: &Wanted) -> Optio
     for line in lines {
         place = ask(&mut both, header, wanted, place, line)?;
     }
-    place = serve(&mut both, header, wanted, place)?;
+    place = serve(&mut both, wanted, place)?;
     both.finish();
-    place = serve(&mut both, header, wanted, place)?;
+    place = serve(&mut both, wanted, place)?;
     if place == wanted.commands.len() {
         Some((both.now(), both.peak()))
     } else {

@@ -8,6 +8,7 @@ mod coupled;
 #[cfg(test)]
 mod coupled_tests;
 mod ending;
+mod ends;
 mod held;
 #[cfg(test)]
 mod held_tests;

@@ -1,14 +1,19 @@
-use Rattle.std.proofs.Common.{◌<◌, sym, subst, option_map}
+use Rattle.std.proofs.Common.{◌<◌, ◌≡◌, false, sym, subst}
 use Rattle.command_words.specs.Geometry.{lines_of}
 use Rattle.speed_bin.specs.Header.{shape_of}
-use Rattle.speed_bin.specs.declared.header.Header.{Header}
-use Rattle.trace_replay.specs.Coupled.{StandsFor, controller_steps, step_of, with_pending}
+use Rattle.scheduler.specs.Controller.{header_of as controller_header, finished_of as controller_finished}
+use Rattle.trace_replay.specs.Coupled.{StandsFor, controller_of, controller_steps, pending_of, with_pending}
+use Rattle.trace_replay.specs.declared.ends.Ends.{Ends}
+use Rattle.trace_replay.proofs.Agreeing.{offered_some}
 use Rattle.trace_replay.proofs.coupled.Coupled.offer.Goals as goal
 
+pub offer-requires-clause-unfinished : goal.offer-requires-clause-unfinished
+unfolding controller_of
+offer-requires-clause-unfinished c = subst (λ (x : Ends). controller_finished x.controller ≡ false) (sym c.self.view_is) c.requires.unfinished
+
 pub offer-requires-clause-inside : goal.offer-requires-clause-inside
-unfolding StandsFor
-offer-requires-clause-inside c =
-    let s = c.requires.stands in
-    let self = c.args.self.now in
-    subst (λ (h : Header). c.args.request.line < lines_of (shape_of h))
-    (sym (c.held.ensures.header s.0 self.controller s.1 s.2 (with_pending (option_map step_of self.pending) (controller_steps s.3)) s.4.controller)) s.5
+unfolding controller_of
+offer-requires-clause-inside c = subst (λ (x : Ends). c.args.request.line < lines_of (shape_of (controller_header x.controller))) (sym c.self.view_is) c.requires.inside
+
+pub invariant_of-self : goal.invariant_of-self
+invariant_of-self c = offered_some c.offer.result c.self.inside.ends c.offer.new.self c.args.request c.offer.ensures.ok c.offer.ensures.err c.self.invariant

@@ -5,10 +5,10 @@ use Rattle.trace_replay.specs.Progress.{noted}
 use Rattle.trace_replay.proofs.Delivering.{awaited, issuing-has, few-commands, delivered-is}
 use Rattle.trace_replay.proofs.progress.Progress.deliver.Goals as goal
 
-pub deliver-requires-clause-pending : goal.deliver-requires-clause-pending
-deliver-requires-clause-pending c =
+pub deliver-requires : goal.deliver-requires
+deliver-requires c =
     let r = c.requires.issuing in
-    awaited c.delivery_laws.ensures r.0 c.args.self.now r.1 r.2 r.3 c.args.command.now c.args.id (lent c.bytes_of.result) c.bytes_of.ensures r.4
+    record { pending = awaited c.delivery_laws.ensures r.0 c.args.self.now r.1 r.2 r.3 c.args.command.now c.args.id (lent c.bytes_of.result) c.bytes_of.ensures r.4 }
 
 pub note-requires : goal.note-requires
 note-requires c =

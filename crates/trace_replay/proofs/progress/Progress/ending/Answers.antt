@@ -4,7 +4,7 @@ use Rattle.trace_replay.proofs.progress.Progress.ending.Goals as goal
 
 pub returns-clause-lines : goal.returns-clause-lines
 returns-clause-lines c = λ h trace run k.
-    ending-is h c.args.self.now _ trace run refl c.now.ensures (record {
+    ending-is h c.args.self.now _ trace run refl c.now.ensures.value (record {
       one_log = c.one_log.ensures.device;
       device_log_is = c.gives_to_a_device.ensures.log h;
       peak_is = c.peak.ensures.peak h;

@@ -4,11 +4,12 @@ use Rattle.speed_bin.specs.declared.header.Header.{Header}
 use Rattle.ddr_io.specs.Sink.{AppendsPrefix}
 use Rattle.ddr_text.specs.Spelling.{spelled}
 use Rattle.ddr_text.specs.declared.lines.ReportLine.TheVariants.{Flip as FlipLine}
+use Rattle.trace_replay.specs.Coupled.{header_of}
 use Rattle.trace_replay.specs.Progress.{IsUnder, IsAtRest, IsBegun, left_of}
 use Rattle.trace_replay.specs.declared.progress.Progress.{Progress}
 use Rattle.trace_replay.proofs.Fronts.{begun-of}
 use Rattle.ddr_text.proofs.Prefixes.{on_ok-to, if_err-to}
-use Rattle.trace_replay.proofs.Passed.{FlipLaws, flip-under, flip-begun, flip-more, left-taken}
+use Rattle.trace_replay.proofs.Passed.{FlipLaws, flip-bit, flip-under, flip-begun, flip-more, left-taken}
 use Rattle.trace_replay.proofs.progress.Progress.flip.Given as given
 use Rattle.trace_replay.proofs.progress.Progress.flip.Goals as goal
 
@@ -25,8 +26,14 @@ laws_in g c = record {
   parts = c.takes_from_the_held.ensures.parts;
   none_held = c.gives_to_a_controller.ensures.none;
   turns = c.gives_to_a_device.ensures.turns;
-  bits = c.gives_to_a_device.ensures.bit;
 }
+
+pub flip-requires : goal.flip-requires
+flip-requires g c =
+    let r = c.requires.rests in
+    let k = r.3.holds in
+    flip-bit r.0 c.args.self.now r.1 r.2 (header_of c.args.self.now.coupled) c.map_line.result c.args.line c.args.device c.args.bit
+    (c.agrees.ensures.header c.args.self.now.coupled r.0 _ _ k.both.steps k.both.stands) c.requires.ahead c.map_line.ensures.inside k.follows
 
 pub returns-in-Ok-clause-under : goal.returns-in-Ok-clause-under
 returns-in-Ok-clause-under g c =

@@ -1,9 +1,11 @@
-use Rattle.std.proofs.Common.{ℕ, List, true, false, [], ◌∷◌, ◌++◌, ◌∙◌, ap, subst, sym, arith, ◌≡◌}
+use Rattle.std.proofs.Common.{ℕ, List, true, false, [], ◌∷◌, ◌++◌, ◌∙◌, ◌<◌, ap, subst, sym, arith, ◌≡◌}
+use Rattle.command_words.specs.Geometry.{lines_of}
+use Rattle.speed_bin.specs.Header.{shape_of}
 use Rattle.requests.specs.declared.request.Request.{Request as Asked}
-use Rattle.trace_replay.specs.Coupled.{Step, StandsFor}
+use Rattle.trace_replay.specs.Coupled.{Step, StandsFor, header_of}
 use Rattle.trace_replay.specs.Progress.{IsUnder, taken}
 use Rattle.trace_replay.specs.declared.progress.Progress.{Progress}
-use Rattle.trace_replay.proofs.Taken.{Laws, next-few, room, offered-one, requests-one}
+use Rattle.trace_replay.proofs.Taken.{Laws, asked-inside, next-few, room, offered-one, requests-one}
 use Rattle.trace_replay.proofs.progress.Progress.offer.Goals as goal
 
 laws_in : goal.After-push-arg-1 → Laws
@@ -45,6 +47,13 @@ laws_after c = record {
   known = c.in_order.ensures.known;
   within_is = c.bounds.ensures.within;
 }
+
+pub offer-requires-clause-inside : goal.offer-requires-clause-inside
+offer-requires-clause-inside c =
+    let r = c.requires.holds in
+    let own = header_of c.args.self.now.coupled in
+    subst (λ (q : Asked). q.line < lines_of (shape_of own)) (sym c.again.ensures)
+    (asked-inside r.0 c.args.self.now r.1 r.2 own c.args.request c.args.bytes (c.agrees.ensures.header c.args.self.now.coupled r.0 _ _ r.3.both.steps r.3.both.stands) r.3 c.requires.asked)
 
 pub push-requires-clause-room : goal.push-requires-clause-room
 push-requires-clause-room c =
