@@ -1,3 +1,4 @@
+pub mod CapWords
 mod Copied
 mod Newer
 pub mod MadeJob

@@ -1,7 +1,9 @@
 -- The words of the command line. `docs/FORMATS.md` has the same in words.
-use Rattle.std.specs.Prelude.{ℕ, ◌≡◌, ◌⊎◌, List, [], ◌∷◌, map, codes, string_bytes, String, Some, None}
+use Rattle.std.specs.Prelude.{ℕ, ◌≡◌, ◌⊎◌, ◌&&◌, nat_le, if◌then◌else◌, List, [], ◌∷◌, map, codes, string_bytes, String, Some, None, Result, Ok, Err}
 use Rattle.std.specs.declared.alloc.Global.{Global}
 use Rattle.std.specs.declared.option.Option.{Option}
+use Rattle.ddr_text.specs.Grammar.{number_of}
+use Rattle.ddr_text.specs.declared.lines.LineFault.{LineFault}
 use Rattle.made_jobs.specs.Words.{seed_and_requests}
 use Rattle.ddr_cli.specs.declared.form.Form.{Form}
 use Rattle.ddr_cli.specs.declared.form.Form.TheVariants as form
@@ -34,6 +36,33 @@ IsGenRun words seed requests = (rest : List (List ℕ)) × (map string_bytes wor
 abbrev pub Makes : List (String Global) → Type 0
 Makes words = (seed : ℕ) × (requests : ℕ) × (IsGen words seed requests ⊎ IsGenRun words seed requests)
 
+-- a cap is 1 to 32
+abbrev pub cap_in : Result ℕ LineFault → Option ℕ
+cap_in (Ok number) = if nat_le 1 number && nat_le number 32 then Some number else None
+cap_in (Err fault) = None
+
+-- the cap of the words, of which there is to be one
+unfoldable pub cap_of : List (List ℕ) → Option ℕ
+cap_of [] = None
+cap_of (word ∷ []) = cap_in (number_of word)
+cap_of (word ∷ other ∷ more) = None
+
+-- the words are this one, and then one that spells the cap
+abbrev pub HasCap : List ℕ → List (String Global) → ℕ → Type 0
+HasCap word words cap = (rest : List (List ℕ)) × (map string_bytes words ≡ word ∷ rest) × (cap_of rest ≡ Some cap)
+
+-- the first of two words is `ports`
+abbrev pub IsPorts : List (String Global) → ℕ → Type 0
+IsPorts words cap = HasCap (codes "ports") words cap
+
+-- the first of two words is `merge`
+abbrev pub IsMerge : List (String Global) → ℕ → Type 0
+IsMerge words cap = HasCap (codes "merge") words cap
+
+-- the words ask for four ports
+abbrev pub AskForPorts : List (String Global) → Type 0
+AskForPorts words = (cap : ℕ) × (IsPorts words cap ⊎ IsMerge words cap)
+
 -- the words are of the form
 abbrev pub IsOfForm : List (String Global) → Form → Type 0
 IsOfForm words form.Replay = IsReplay words
@@ -42,6 +71,8 @@ IsOfForm words form.Show = IsShow words
 IsOfForm words form.Upgrade = IsUpgrade words
 IsOfForm words (form.Gen seed requests) = IsGen words seed requests
 IsOfForm words (form.GenRun seed requests) = IsGenRun words seed requests
+IsOfForm words (form.Ports cap) = IsPorts words cap
+IsOfForm words (form.Merge cap) = IsMerge words cap
 
 -- the words are of one of the forms
 abbrev pub IsListed : List (String Global) → Type 0

@@ -1,8 +1,10 @@
 //! What the words of the command line ask for.
-ghost use Rattle.std.specs.Prelude.{ℕ, ◌≡◌, ◌≤◌, ◌∷◌, [], List, Some, None, length, true, false, map, string_bytes, drop};
+ghost use Rattle.std.specs.Prelude.{ℕ, ◌≡◌, ◌≤◌, ◌∷◌, [], List, Some, None, Ok, IfSome, length, true, false, map, string_bytes, drop};
+ghost use Rattle.ddr_text.specs.Grammar.{number_of};
 ghost use Rattle.ddr_cli.specs.declared.form.Form.{Form as AnyForm};
-ghost use Rattle.ddr_cli.specs.Words.{IsFoundIn, IsOfForm, Makes};
+ghost use Rattle.ddr_cli.specs.Words.{AskForPorts, HasCap, IsFoundIn, IsOfForm, Makes, cap_in, cap_of};
 
+use ddr_text::number_of;
 use made_jobs::read_words;
 
 /// A form of the words of the command line.
@@ -20,6 +22,10 @@ pub enum Form {
     Gen(u64, u64),
     /// `gen run` with a seed and a number of requests.
     GenRun(u64, u64),
+    /// `ports` with a cap.
+    Ports(u32),
+    /// `merge` with a cap.
+    Merge(u32),
 }
 
 /// The form of the words. `None` exactly where they are of none.
@@ -35,7 +41,76 @@ pub fn form_of(words: &[String]) -> Option<Form>
     } else if is_word(words, "upgrade") {
         Some(Form::Upgrade)
     } else {
-        made_form(words)
+        longer_form(words)
+    }
+}
+
+// The form of two words or more.
+fn longer_form(words: &[String]) -> Option<Form>
+    ensures found { (it : AnyForm) → result ≡ Some it → IsOfForm words.now it }
+    ensures none_made { result ≡ None → ¬ (Makes words.now) }
+    ensures none_ported { result ≡ None → ¬ (AskForPorts words.now) }
+{
+    match made_form(words) {
+        Some(form) => Some(form),
+        None => ports_form(words),
+    }
+}
+
+// The form of words that ask for four ports.
+fn ports_form(words: &[String]) -> Option<Form>
+    ensures found { (it : AnyForm) → result ≡ Some it → IsOfForm words.now it }
+    ensures none { result ≡ None → ¬ (AskForPorts words.now) }
+{
+    match cap_behind(words, "ports") {
+        Some(cap) => Some(Form::Ports(cap)),
+        None => match cap_behind(words, "merge") {
+            Some(cap) => Some(Form::Merge(cap)),
+            None => None,
+        },
+    }
+}
+
+// The cap that the one word behind this word spells.
+fn cap_behind(words: &[String], word: &str) -> Option<u32>
+    ensures found { IfSome result (HasCap word.now words.now) }
+    ensures none { result ≡ None → (cap : ℕ) → ¬ (HasCap word.now words.now cap) }
+{
+    if !begins_with(words, word) {
+        return None;
+    }
+    cap_of(behind_first(words))
+}
+
+// The cap that the one word spells.
+#[tactic(auto, unfolding(crate::specs::Words::cap_of))]
+fn cap_of(words: &[String]) -> Option<u32>
+    ensures { result ≡ cap_of (map string_bytes words.now) }
+{
+    match words {
+        [word] => cap_spelled(word.as_str()),
+        _ => None,
+    }
+}
+
+// The cap that a word spells.
+fn cap_spelled(word: &str) -> Option<u32>
+    ensures { result ≡ cap_in (number_of word.now) }
+{
+    match number_of(word.as_bytes()) {
+        Ok(number) => cap_in(number),
+        Err(_) => None,
+    }
+}
+
+// The number, where it is a cap.
+fn cap_in(number: u64) -> Option<u32>
+    ensures { result ≡ cap_in (Ok number) }
+{
+    if 1 <= number && number <= 32 {
+        Some(number as u32)
+    } else {
+        None
     }
 }
 

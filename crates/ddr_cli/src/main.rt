@@ -13,6 +13,8 @@ mod form;
 pub mod laws;
 mod lent_output;
 mod made_run;
+#[cfg(test)]
+mod ports_tests;
 mod run;
 mod showing;
 mod shown;

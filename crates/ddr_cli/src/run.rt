@@ -12,13 +12,19 @@ ghost use Rattle.ddr_cli.specs.AtEnd.{IsAnswer};
 ghost use Rattle.ddr_cli.specs.Made.{MadeAnswers};
 ghost use Rattle.ddr_cli.specs.Shown.{ShowAnswers};
 ghost use Rattle.ddr_cli.specs.Upgraded.{UpgradeAnswers};
-ghost use Rattle.ddr_cli.specs.Words.{IsAudit, IsGen, IsGenRun, IsListed, IsReplay, IsShow, IsUpgrade, Makes};
+ghost use Rattle.ddr_cli.specs.Words.{AskForPorts, IsAudit, IsGen, IsGenRun, IsListed, IsMerge, IsPorts, IsReplay, IsShow, IsUpgrade, Makes};
+ghost use Rattle.ddr_text.specs.Opening.{Accepts, opening_of};
+ghost use Rattle.fair_queue.specs.Answering.{MergeAnswers};
+ghost use Rattle.fair_queue.specs.Arrivals.{input_of};
+ghost use Rattle.fair_queue.specs.Serving.{PortsAnswers};
+ghost use Rattle.fair_queue.specs.Turns.{IsFair};
 
 use crate::made_run::run_made;
 use crate::showing::show;
 use crate::upgrading::upgrade;
 use crate::{Form, form_of};
 use ddr_io::{Sink, Source, Status};
+use fair_queue::{merge, ports};
 use log_auditor::audit;
 use made_jobs::write_job;
 use std::alloc::Global;
@@ -61,6 +67,16 @@ pub fn run<S: Source, K: Sink>(
     // Where a job is made, nothing is read.
     ensures made_unread { Makes words.now → source.new ≡ source.old }
 
+    // With the word `merge` and a cap: the merged job of four ports.
+    ensures merged { (cap : ℕ) → IsMerge words.now cap → MergeAnswers cap result (S.left source.old) (S.left source.new) (K.written sink.old) (K.written sink.new) }
+
+    // With the word `ports` and a cap: the report of that job, with the headline's promise and that of the cap.
+    ensures ported { (cap : ℕ) → IsPorts words.now cap → PortsAnswers cap result (S.left source.old) (S.left source.new) (K.written sink.old) (K.written sink.new) }
+
+    // With either: each port's rests stand in their order, each once, and the ports take turns.
+    ensures fair { (h : Header) (bytes text rest : List ℕ) → AskForPorts words.now → S.left source.old ≡ Some bytes → opening_of bytes ≡ Accepts h text rest
+        → IsFair (input_of rest).lines }
+
     // A fault is told where it was counted.
     ensures read { result ≡ Status.ReadFault → Rose (S.faults source.old) (S.faults source.new) }
     ensures write { result ≡ Status.WriteFault → Rose (K.faults sink.old) (K.faults sink.new) }
@@ -77,6 +93,8 @@ pub fn run<S: Source, K: Sink>(
         Some(Form::Upgrade) => upgrade(alloc, source, sink),
         Some(Form::Gen(seed, requests)) => write_job(seed, requests, sink),
         Some(Form::GenRun(seed, requests)) => run_made(alloc, seed, requests, sink),
+        Some(Form::Ports(cap)) => ports(alloc, cap, source, sink),
+        Some(Form::Merge(cap)) => merge(alloc, cap, source, sink),
         None => Status::Usage,
     }
 }

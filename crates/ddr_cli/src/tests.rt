@@ -140,7 +140,7 @@ fn headers_are_refused(rt: HostRuntime) -> Result<(), Fail> {
 #[test]
 fn other_words(rt: HostRuntime) -> Result<(), Fail> {
     let alloc = rt.alloc();
-    let rows: [&[&str]; 18] = [
+    let rows: [&[&str]; 27] = [
         &[],
         &["replay", "now"],
         &["Replay"],
@@ -159,6 +159,15 @@ fn other_words(rt: HostRuntime) -> Result<(), Fail> {
         &["gen", "run", "1", "5", "5"],
         &["run", "1", "5"],
         &["Gen", "1", "5"],
+        &["ports"],
+        &["merge"],
+        &["ports", "0"],
+        &["merge", "33"],
+        &["ports", "02"],
+        &["merge", "+2"],
+        &["ports", "2", "2"],
+        &["merge", "4294967298"],
+        &["2", "merge"],
     ];
     for row in rows {
         let words = words_of(alloc, row)?;
@@ -178,7 +187,7 @@ fn faults_are_told(rt: HostRuntime) -> Result<(), Fail> {
     let rows = [
         (
             Status::Usage,
-            "usage: ddr replay | audit | show | gen [run] SEED REQUESTS | upgrade",
+            "usage: ddr replay | audit | show | gen [run] SEED REQUESTS | upgrade | ports CAP | merge CAP",
         ),
         (Status::ReadFault, "read fault"),
         (Status::WriteFault, "write fault"),

@@ -1,4 +1,9 @@
-use Rattle.ddr_cli.specs.declared.form.Form.TheVariants.{Gen, GenRun}
+use Rattle.std.proofs.Common.{subst}
+use Rattle.std.specs.Prelude.{codes}
+use Rattle.fair_queue.specs.Answering.{MergeAnswers}
+use Rattle.fair_queue.specs.Serving.{PortsAnswers}
+use Rattle.ddr_cli.specs.declared.form.Form.TheVariants.{Audit, Gen, GenRun, Merge, Ports, Replay, Show, Upgrade}
+use Rattle.ddr_cli.proofs.CapWords.{asks_listed, cap_within, same_cap}
 use Rattle.ddr_cli.proofs.MadeWords.{either_way, few_requests}
 use Rattle.ddr_cli.proofs.run.run.Goals as goal
 
@@ -18,3 +23,47 @@ returns-in-None-clause-made g c = λ seed requests is. c.in-None.ensures (Gen se
 
 pub returns-in-None-clause-made_run : goal.returns-in-None-clause-made_run
 returns-in-None-clause-made_run g c = λ seed requests is. c.in-None.ensures (GenRun seed requests, is)
+
+pub ports-requires : goal.ports-requires
+ports-requires g c =
+    let is = rw c.in-Some-Ports.field-0-is at c.in-Some-Ports.ensures in
+    cap_within is.0 c.in-Some-Ports.cap is.2
+
+pub merge-requires : goal.merge-requires
+merge-requires g c =
+    let is = rw c.in-Some-Merge.field-0-is at c.in-Some-Merge.ensures in
+    cap_within is.0 c.in-Some-Merge.cap is.2
+
+pub returns-in-None-clause-merged : goal.returns-in-None-clause-merged
+returns-in-None-clause-merged g c = λ cap is. absurd (c.in-None.ensures (Merge cap, is))
+
+pub returns-in-None-clause-ported : goal.returns-in-None-clause-ported
+returns-in-None-clause-ported g c = λ cap is. absurd (c.in-None.ensures (Ports cap, is))
+
+pub returns-in-Some-Ports-clause-ported : goal.returns-in-Some-Ports-clause-ported
+returns-in-Some-Ports-clause-ported g c = λ cap is.
+    subst (λ n. PortsAnswers n c.ports.result (g.S.Source.left c.args.source.now) (g.S.Source.left c.ports.new.source) (g.K.Sink.written c.args.sink.now) (g.K.Sink.written c.ports.new.sink))
+    (same_cap (codes "ports") c.args.words.now c.in-Some-Ports.cap cap (rw c.in-Some-Ports.field-0-is at c.in-Some-Ports.ensures) is) c.ports.ensures.answer
+
+pub returns-in-Some-Merge-clause-merged : goal.returns-in-Some-Merge-clause-merged
+returns-in-Some-Merge-clause-merged g c = λ cap is.
+    subst (λ n. MergeAnswers n c.merge.result (g.S.Source.left c.args.source.now) (g.S.Source.left c.merge.new.source) (g.K.Sink.written c.args.sink.now) (g.K.Sink.written c.merge.new.sink))
+    (same_cap (codes "merge") c.args.words.now c.in-Some-Merge.cap cap (rw c.in-Some-Merge.field-0-is at c.in-Some-Merge.ensures) is) c.merge.ensures.answer
+
+pub returns-in-None-clause-fair : goal.returns-in-None-clause-fair
+returns-in-None-clause-fair g c = λ h bytes text rest asks. absurd (c.in-None.ensures (asks_listed c.args.words.now asks))
+
+pub returns-in-None-clause-replayed : goal.returns-in-None-clause-replayed
+returns-in-None-clause-replayed g c = λ is. absurd (c.in-None.ensures (Replay, is))
+
+pub returns-in-None-clause-audited : goal.returns-in-None-clause-audited
+returns-in-None-clause-audited g c = λ is. absurd (c.in-None.ensures (Audit, is))
+
+pub returns-in-None-clause-shown : goal.returns-in-None-clause-shown
+returns-in-None-clause-shown g c = λ is. absurd (c.in-None.ensures (Show, is))
+
+pub returns-in-None-clause-upgraded : goal.returns-in-None-clause-upgraded
+returns-in-None-clause-upgraded g c = λ is. absurd (c.in-None.ensures (Upgrade, is))
+
+pub returns-in-Some-Ports-clause-fair : goal.returns-in-Some-Ports-clause-fair
+returns-in-Some-Ports-clause-fair g c = λ h bytes text rest asks left opens. c.ports.ensures.fair h bytes text rest left opens

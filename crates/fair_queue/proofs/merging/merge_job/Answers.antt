@@ -1,0 +1,31 @@
+use Rattle.std.proofs.Common.{subst, OnOk, IfErr}
+use Rattle.ddr_io.specs.Line.{next_bytes}
+use Rattle.fair_queue.specs.Merging.{BeginsToMerge, Merges}
+use Rattle.fair_queue.specs.Reading.{Place}
+use Rattle.fair_queue.proofs.Opened.{job-cut, job-merges, nothing-cut, opening-cut}
+use Rattle.fair_queue.proofs.Pieces.{if_err, if_err-to, on_ok-to}
+use Rattle.fair_queue.proofs.merging.merge_job.Goals as goal
+
+pub returns-in_err-queues-clause-cut : goal.returns-in_err-queues-clause-cut
+returns-in_err-queues-clause-cut g c =
+    if_err _ _ (nothing-cut c.args.cap c.args.text.now (next_bytes c.args.reader.held (g.S.Source.left c.args.source.now)) (g.K.Sink.written c.args.sink.now))
+
+pub returns-in_err-put_opening-clause-cut : goal.returns-in_err-put_opening-clause-cut
+returns-in_err-put_opening-clause-cut g c =
+    if_err _ _ (opening-cut c.args.cap c.args.text.now (next_bytes c.args.reader.held (g.S.Source.left c.args.source.now)) (g.K.Sink.written c.args.sink.now) (g.K.Sink.written c.put_opening.new.sink) c.in_err-put_opening.ensures.cut)
+
+pub returns-clause-whole : goal.returns-clause-whole
+returns-clause-whole g c =
+    let mid = g.K.Sink.written c.put_opening.new.sink in
+    let after = g.K.Sink.written c.merge_lines.new.sink in
+    on_ok-to c.merge_lines.result _ _
+    (job-merges c.args.cap c.args.text.now (next_bytes c.args.reader.held (g.S.Source.left c.args.source.now)) (g.K.Sink.written c.args.sink.now) mid after c.in_ok-put_opening.ensures.whole)
+    (subst (λ (k : Place). OnOk c.merge_lines.result (Merges c.args.cap (next_bytes k.reader.held (g.S.Source.left c.args.source.now)) mid after)) c.new-lines.ensures c.merge_lines.ensures.whole)
+
+pub returns-clause-cut : goal.returns-clause-cut
+returns-clause-cut g c =
+    let mid = g.K.Sink.written c.put_opening.new.sink in
+    let after = g.K.Sink.written c.merge_lines.new.sink in
+    if_err-to c.merge_lines.result _ _
+    (job-cut c.args.cap c.args.text.now (next_bytes c.args.reader.held (g.S.Source.left c.args.source.now)) (g.K.Sink.written c.args.sink.now) mid after c.in_ok-put_opening.ensures.whole)
+    (subst (λ (k : Place). IfErr c.merge_lines.result (λ stop. BeginsToMerge c.args.cap (next_bytes k.reader.held (g.S.Source.left c.args.source.now)) mid after)) c.new-lines.ensures c.merge_lines.ensures.cut)

@@ -1,0 +1,80 @@
+-- What a replay of a merged job answers, by the bytes that the source had and has left, and those that the sink got.
+use Rattle.std.specs.Prelude.{ℕ, ⊤, ◌≡◌, ◌<◌, ◌⊎◌, List, ◌∷◌, ◌++◌, length, None, Some, IsSome}
+use Rattle.std.specs.List.{flat_map}
+use Rattle.std.specs.declared.option.Option.{Option}
+use Rattle.std.specs.Io.KnownBytes.{Appends, Keeps}
+use Rattle.ddr_io.specs.Sink.{AppendsPrefix}
+use Rattle.ddr_io.specs.declared.status.Status.{Status}
+use Rattle.ddr_io.specs.declared.status.Status.TheVariants as status
+use Rattle.ddr_text.specs.Opening.{Accepts, Refuses, opening_of}
+use Rattle.ddr_text.specs.Spelling.{spelled}
+use Rattle.ddr_text.specs.declared.lines.TraceLine.{TraceLine}
+use Rattle.speed_bin.specs.Header.{shape_of}
+use Rattle.speed_bin.specs.declared.header.Header.{Header}
+use Rattle.reports.specs.Headline.{Headline}
+use Rattle.reports.specs.Requests.{Request, requests}
+use Rattle.reports.specs.Runs.{Run}
+use Rattle.reports.specs.Sound.{IsRun}
+use Rattle.reports.specs.Whole.{whole}
+use Rattle.trace_replay.specs.Job.{IsJobOf, trace_of}
+use Rattle.trace_replay.specs.Replay.{Reports, Starts, refusal_of}
+use Rattle.fair_queue.specs.Ages.{overtaking}
+use Rattle.fair_queue.specs.Answering.{ReadsInput, refused_opening}
+use Rattle.fair_queue.specs.Merged.{merged_behind}
+
+-- ---- The merged job
+
+-- the merge of the bytes is a job with this header and this text, and behind it stand this trace and this refusal
+abbrev pub IsMergedJob : ℕ → List ℕ → Header → List ℕ → List TraceLine → Option ℕ → Type 0
+IsMergedJob cap bytes h text trace refused =
+    (rest : List ℕ) × (opening_of bytes ≡ Accepts h text rest) × (trace_of (shape_of h) (merged_behind cap rest) ≡ record { lines = trace; refused = refused })
+
+-- the same where the bytes are known; else it is some job
+abbrev pub IsPortsJob : ℕ → Option (List ℕ) → Header → List ℕ → List TraceLine → Option ℕ → Type 0
+IsPortsJob cap None h text trace refused = (job : List ℕ) × IsJobOf (Some job) h text trace refused
+IsPortsJob cap (Some bytes) h text trace refused = IsMergedJob cap bytes h text trace refused
+
+-- the opening is refused with this reason
+abbrev pub IsUnmerged : Option (List ℕ) → ℕ → Type 0
+IsUnmerged None reason = ⊤
+IsUnmerged (Some bytes) reason = opening_of bytes ≡ Refuses reason
+
+-- ---- What is written of it
+
+-- fewer than so many requests with a greater number are served before any request of the trace
+abbrev pub KeepsAges : ℕ → List TraceLine → Run → Type 0
+KeepsAges cap trace run = (earlier later : List Request) (r : Request) → requests trace ≡ earlier ++ r ∷ later → length (overtaking trace run r) < cap
+
+-- the report of a finished run of the merged job was written, and what it promises
+pub record Serves (cap : ℕ) (h : Header) (text : List ℕ) (trace : List TraceLine) (refused : Option ℕ) (before after : Option (List ℕ)) : Type 0 where
+  pub run : Run
+  pub clock : ℕ
+  pub is_run : IsRun h trace run clock
+  pub promises : Headline h trace run clock
+  pub ages : KeepsAges cap trace run
+  pub wrote : Appends before after (text ++ flat_map spelled (whole h trace run clock (refusal_of trace refused)))
+
+-- the same where the bytes are known; else it is the report of some job
+abbrev pub ServesIf : ℕ → Option (List ℕ) → Header → List ℕ → List TraceLine → Option ℕ → Option (List ℕ) → Option (List ℕ) → Type 0
+ServesIf cap None h text trace refused before after = Reports h text trace refused before after
+ServesIf cap (Some bytes) h text trace refused before after = Serves cap h text trace refused before after
+
+-- ---- The answer
+
+abbrev pub PortsAnswers : ℕ → Status → Option (List ℕ) → Option (List ℕ) → Option (List ℕ) → Option (List ℕ) → Type 0
+PortsAnswers cap status.Ok old new before after =
+    ((h : Header) × (text : List ℕ) × (trace : List TraceLine) × IsPortsJob cap old h text trace None × ServesIf cap old h text trace None before after) × ReadsInput old new
+PortsAnswers cap status.Refused old new before after =
+    (((h : Header) × (text : List ℕ) × (trace : List TraceLine) × (refused : Option ℕ) × IsPortsJob cap old h text trace refused × IsSome refused × ServesIf cap old h text trace refused before after) × ReadsInput old new)
+    ⊎ ((reason : ℕ) × IsUnmerged old reason × Appends before after (refused_opening reason))
+PortsAnswers cap status.WriteFault old new before after =
+    ((h : Header) × (text : List ℕ) × (trace : List TraceLine) × (refused : Option ℕ) × IsPortsJob cap old h text trace refused × Starts h text trace refused before after)
+    ⊎ ((reason : ℕ) × IsUnmerged old reason × AppendsPrefix before after (refused_opening reason))
+PortsAnswers cap status.OutOfMemory old new before after =
+    ((h : Header) × (text : List ℕ) × (trace : List TraceLine) × (refused : Option ℕ) × IsPortsJob cap old h text trace refused × Starts h text trace refused before after)
+    ⊎ (((reason : ℕ) × IsUnmerged old reason × AppendsPrefix before after (refused_opening reason))
+    ⊎ Keeps before after)
+-- nothing was written
+PortsAnswers cap status.ReadFault old new before after = Keeps before after
+PortsAnswers cap status.Broken old new before after = ⊥
+PortsAnswers cap status.Usage old new before after = ⊥

@@ -1,0 +1,121 @@
+//! Merging the lines of four ports into one job.
+ghost use Rattle.std.specs.Prelude.{ℕ, ◌≡◌, ◌≢◌, ◌≤◌, List, Some, OnOk, IfOk, IfErr};
+ghost use Rattle.ddr_io.specs.Faults.{Rose};
+ghost use Rattle.ddr_io.specs.Line.{next_bytes};
+ghost use Rattle.ddr_text.specs.Opening.{Accepts, opening_of};
+ghost use Rattle.speed_bin.specs.declared.header.Header.{Header};
+ghost use Rattle.fair_queue.specs.Answering.{IsWhole, MergeAnswers, BehindAnswers, JobMerges, JobBeginsToMerge, RefusalAnswers, refused_opening};
+ghost use Rattle.fair_queue.specs.Arrivals.{input_of};
+ghost use Rattle.fair_queue.specs.Machine.{empty};
+ghost use Rattle.fair_queue.specs.Merging.{ReadsToEnd, StopCause};
+ghost use Rattle.fair_queue.specs.Turns.{IsFair};
+
+use crate::admitting::merge_lines;
+use crate::laws::merges_fairly;
+use crate::port_lines::PortLines;
+use crate::queues::Queues;
+use crate::stop::Stop;
+use crate::writing::{put_line, put_opening};
+use ddr_io::{Line, LineReader, OutOfMemory, Sink, Source, Status};
+use ddr_text::{HeaderText, Opening, ReportLine, open_job};
+use std::alloc::Global;
+
+/// Reads the lines of four ports behind the opening of a job, and writes one job: the rests of the lines, the ports in turn,
+/// with a line `I 0` behind every `cap` requests. At most 64 rests are kept. An empty line ends it where a line is bad. Of an
+/// opening that is refused it writes the X line alone.
+#[inline(never)]
+pub fn merge<S: Source, K: Sink>(alloc: Global, cap: u32, source: &mut S, sink: &mut K) -> Status
+    requires { (1 ≤ cap) × (cap ≤ 32) }
+    ensures answer { MergeAnswers cap result (S.left source.old) (S.left source.new) (K.written sink.old) (K.written sink.new) }
+    ensures usage { result ≢ Status.Usage }
+    ensures broken { result ≢ Status.Broken }
+
+    // Each port's rests stand in their order, each once, and the ports take turns.
+    ensures fair { (h : Header) (bytes text rest : List ℕ) → S.left source.old ≡ Some bytes → opening_of bytes ≡ Accepts h text rest → IsFair (input_of rest).lines }
+
+    // A fault is told where it was counted, and none is swallowed.
+    ensures read { result ≡ Status.ReadFault → Rose (S.faults source.old) (S.faults source.new) }
+    ensures write { result ≡ Status.WriteFault → Rose (K.faults sink.old) (K.faults sink.new) }
+    ensures kept { IsWhole result → S.faults source.new ≡ S.faults source.old }
+    ensures kept_written { IsWhole result → K.faults sink.new ≡ K.faults sink.old }
+{
+    merges_fairly();
+    let mut reader = LineReader::new();
+    match open_job(alloc, &mut reader, source) {
+        Ok(Opening::Accepted(_header, text)) => {
+            merge_behind(alloc, cap, &text, reader, source, sink)
+        }
+        Ok(Opening::Refused(reason)) => refuse_opening(reason, sink),
+        Ok(Opening::Failed) => Status::ReadFault,
+        Err(_) => Status::OutOfMemory,
+    }
+}
+
+// Writes the X line of an opening that is refused.
+fn refuse_opening<K: Sink>(reason: u8, sink: &mut K) -> Status
+    ensures answer { RefusalAnswers result (refused_opening reason) (K.written sink.old) (K.written sink.new) }
+    ensures write { result ≡ Status.WriteFault → Rose (K.faults sink.old) (K.faults sink.new) }
+    ensures kept { IsWhole result → K.faults sink.new ≡ K.faults sink.old }
+{
+    match put_line(&ReportLine::Refused(0, reason), sink) {
+        Ok(()) => Status::Refused,
+        Err(stop) => stop.status(),
+    }
+}
+
+// Writes the opening, and merges the lines behind it.
+fn merge_behind<S: Source, K: Sink>(
+    alloc: Global,
+    cap: u32,
+    text: &HeaderText,
+    reader: LineReader,
+    source: &mut S,
+    sink: &mut K,
+) -> Status
+    requires cap { 1 ≤ cap }
+    requires going_on { reader.last ≡ Line.Text }
+    ensures answer { BehindAnswers cap text.now (next_bytes reader.held (S.left source.old)) result (S.left source.new) (K.written sink.old) (K.written sink.new) }
+    ensures read { result ≡ Status.ReadFault → Rose (S.faults source.old) (S.faults source.new) }
+    ensures write { result ≡ Status.WriteFault → Rose (K.faults sink.old) (K.faults sink.new) }
+    ensures kept { IsWhole result → S.faults source.new ≡ S.faults source.old }
+    ensures kept_written { IsWhole result → K.faults sink.new ≡ K.faults sink.old }
+{
+    match merge_job(alloc, cap, text, reader, source, sink) {
+        Ok(()) => Status::Ok,
+        Err(stop) => stop.status(),
+    }
+}
+
+// Writes the opening, and merges the lines behind it, or stops.
+fn merge_job<S: Source, K: Sink>(
+    alloc: Global,
+    cap: u32,
+    text: &HeaderText,
+    reader: LineReader,
+    source: &mut S,
+    sink: &mut K,
+) -> Result<(), Stop>
+    requires cap { 1 ≤ cap }
+    requires going_on { reader.last ≡ Line.Text }
+    ensures whole { OnOk result (JobMerges cap text.now (next_bytes reader.held (S.left source.old)) (K.written sink.old) (K.written sink.new)) }
+    ensures used_up { OnOk result (ReadsToEnd (next_bytes reader.held (S.left source.old)) (S.left source.new)) }
+    ensures cut { IfErr result (λ stop. JobBeginsToMerge cap text.now (next_bytes reader.held (S.left source.old)) (K.written sink.old) (K.written sink.new)) }
+    ensures kept { OnOk result ((S.faults source.new ≡ S.faults source.old) × (K.faults sink.new ≡ K.faults sink.old)) }
+    ensures cause { IfErr result (StopCause (S.faults source.old) (S.faults source.new) (K.faults sink.old) (K.faults sink.new)) }
+{
+    let mut queues = new_queues(alloc)?;
+    put_opening(text, sink)?;
+    let mut lines = PortLines::new(reader);
+    merge_lines(cap, &mut queues, &mut lines, source, sink)
+}
+
+// Empty queues.
+fn new_queues(alloc: Global) -> Result<Queues, Stop>
+    ensures queues { IfOk result (λ it. it ≡ empty) }
+    ensures cause { IfErr result (λ stop. stop ≡ Stop.OutOfMemory) }
+{
+    match Queues::new(alloc) {
+        Ok(queues) => Ok(queues),
+        Err(OutOfMemory) => Err(Stop::OutOfMemory),
+    }
+}

@@ -1,0 +1,146 @@
+//! Writes the pieces of a merged job.
+ghost use Rattle.std.specs.Prelude.{◌≡◌, ◌<◌, ◌≤◌, ◌^◌, ◌++◌, ◌∷◌, [], ◌&&◌, if◌then◌else◌, length, OnOk, IfOk, IfErr};
+ghost use Rattle.std.specs.List.{flat_map};
+ghost use Rattle.std.specs.Io.KnownBytes.{Appends};
+ghost use Rattle.ddr_io.specs.Sink.{AppendsPrefix};
+ghost use Rattle.ddr_text.specs.Opening.{with_feed};
+ghost use Rattle.ddr_text.specs.Spelling.{spelled};
+ghost use Rattle.fair_queue.specs.Merged.{barriers, barrier, ending, is_due, is_request, one_more};
+ghost use Rattle.fair_queue.specs.Stop.{WriteCause};
+
+use crate::rest::Rest;
+use crate::stop::{Stop, put};
+use arrayvec::ArrayVec;
+use ddr_io::Sink;
+use ddr_text::{HeaderText, ReportLine, write_report_line};
+
+/// Writes the text of the header and its separator as one piece.
+pub(crate) fn put_opening<K: Sink>(text: &HeaderText, sink: &mut K) -> Result<(), Stop>
+    ensures whole { OnOk result (Appends (K.written sink.old) (K.written sink.new) text.now) }
+    ensures cut { IfErr result (λ stop. AppendsPrefix (K.written sink.old) (K.written sink.new) text.now) }
+    ensures later { K.faults sink.old ≤ K.faults sink.new }
+    ensures kept { OnOk result (K.faults sink.new ≡ K.faults sink.old) }
+    ensures cause { IfErr result (WriteCause (K.faults sink.old) (K.faults sink.new)) }
+{
+    put_bytes(text.bytes(), sink)
+}
+
+/// Writes these bytes as one piece.
+pub(crate) fn put_bytes<K: Sink>(bytes: &[u8], sink: &mut K) -> Result<(), Stop>
+    ensures whole { OnOk result (Appends (K.written sink.old) (K.written sink.new) bytes.now) }
+    ensures cut { IfErr result (λ stop. AppendsPrefix (K.written sink.old) (K.written sink.new) bytes.now) }
+    ensures later { K.faults sink.old ≤ K.faults sink.new }
+    ensures kept { OnOk result (K.faults sink.new ≡ K.faults sink.old) }
+    ensures cause { IfErr result (WriteCause (K.faults sink.old) (K.faults sink.new)) }
+{
+    if bytes.is_empty() {
+        return Ok(());
+    }
+    put(sink, bytes)
+}
+
+/// Writes a line of a report.
+#[tactic(auto, using(crate::proofs::Pieces::some_bytes))]
+pub(crate) fn put_line<K: Sink>(line: &ReportLine, sink: &mut K) -> Result<(), Stop>
+    ensures whole { OnOk result (Appends (K.written sink.old) (K.written sink.new) (spelled line.now)) }
+    ensures cut { IfErr result (λ stop. AppendsPrefix (K.written sink.old) (K.written sink.new) (spelled line.now)) }
+    ensures later { K.faults sink.old ≤ K.faults sink.new }
+    ensures kept { OnOk result (K.faults sink.new ≡ K.faults sink.old) }
+    ensures cause { IfErr result (WriteCause (K.faults sink.old) (K.faults sink.new)) }
+{
+    let mut text = ArrayVec::new();
+    write_report_line(line, &mut text);
+    put(sink, &text)
+}
+
+/// Writes a rest, and the barrier before it, if one is due, where so many requests were written before. How many they
+/// are then.
+pub(crate) fn put_rest<K: Sink>(
+    cap: u32,
+    count: u64,
+    rest: &Rest,
+    sink: &mut K,
+) -> Result<u64, Stop>
+    requires cap { 1 ≤ cap }
+    requires few { count < 2 ^ 32 }
+    ensures count { IfOk result (λ n. n ≡ one_more (is_request rest.now) count) }
+    ensures whole { OnOk result (Appends (K.written sink.old) (K.written sink.new) (flat_map with_feed (barriers cap count rest.now ++ rest.now ∷ []))) }
+    ensures cut { IfErr result (λ stop. AppendsPrefix (K.written sink.old) (K.written sink.new) (flat_map with_feed (barriers cap count rest.now ++ rest.now ∷ []))) }
+    ensures later { K.faults sink.old ≤ K.faults sink.new }
+    ensures kept { OnOk result (K.faults sink.new ≡ K.faults sink.old) }
+    ensures cause { IfErr result (WriteCause (K.faults sink.old) (K.faults sink.new)) }
+{
+    let asks = is_request(rest.bytes());
+    put_barrier(is_barred(cap, count, asks), sink)?;
+    put_with_feed(rest.bytes(), sink)?;
+    Ok(if asks { count + 1 } else { count })
+}
+
+/// Writes the empty line that stands for a bad line.
+pub(crate) fn put_ending<K: Sink>(is_bad: bool, sink: &mut K) -> Result<(), Stop>
+    ensures whole { OnOk result (Appends (K.written sink.old) (K.written sink.new) (ending is_bad)) }
+    ensures cut { IfErr result (λ stop. AppendsPrefix (K.written sink.old) (K.written sink.new) (ending is_bad)) }
+    ensures later { K.faults sink.old ≤ K.faults sink.new }
+    ensures kept { OnOk result (K.faults sink.new ≡ K.faults sink.old) }
+    ensures cause { IfErr result (WriteCause (K.faults sink.old) (K.faults sink.new)) }
+{
+    if is_bad {
+        return put_with_feed(b"", sink);
+    }
+    Ok(())
+}
+
+// Whether a barrier stands before the next rest, by whether that is a request.
+fn is_barred(cap: u32, count: u64, asks: bool) -> bool
+    requires { 1 ≤ cap }
+    ensures { result ≡ (asks && is_due cap count) }
+{
+    asks && is_due(cap, count)
+}
+
+// Writes a barrier, where one is due.
+fn put_barrier<K: Sink>(due: bool, sink: &mut K) -> Result<(), Stop>
+    ensures whole { OnOk result (Appends (K.written sink.old) (K.written sink.new) (flat_map with_feed (if due then barrier ∷ [] else []))) }
+    ensures cut { IfErr result (λ stop. AppendsPrefix (K.written sink.old) (K.written sink.new) (flat_map with_feed (if due then barrier ∷ [] else []))) }
+    ensures later { K.faults sink.old ≤ K.faults sink.new }
+    ensures kept { OnOk result (K.faults sink.new ≡ K.faults sink.old) }
+    ensures cause { IfErr result (WriteCause (K.faults sink.old) (K.faults sink.new)) }
+{
+    if due {
+        return put_with_feed(b"I 0", sink);
+    }
+    Ok(())
+}
+
+// Whether a rest counts as a request.
+fn is_request(rest: &[u8]) -> bool
+    ensures { result ≡ is_request rest.now }
+{
+    match rest {
+        [] => false,
+        [first, ..] => *first == b'R' || *first == b'W',
+    }
+}
+
+// Whether a barrier stands before the next request, where so many were written before.
+fn is_due(cap: u32, count: u64) -> bool
+    requires { 1 ≤ cap }
+    ensures { result ≡ is_due cap count }
+{
+    count != 0 && count % u64::from(cap) == 0
+}
+
+// Writes a line and its line feed.
+fn put_with_feed<K: Sink>(line: &[u8], sink: &mut K) -> Result<(), Stop>
+    requires { length line.now < 512 }
+    ensures whole { OnOk result (Appends (K.written sink.old) (K.written sink.new) (with_feed line.now)) }
+    ensures cut { IfErr result (λ stop. AppendsPrefix (K.written sink.old) (K.written sink.new) (with_feed line.now)) }
+    ensures later { K.faults sink.old ≤ K.faults sink.new }
+    ensures kept { OnOk result (K.faults sink.new ≡ K.faults sink.old) }
+    ensures cause { IfErr result (WriteCause (K.faults sink.old) (K.faults sink.new)) }
+{
+    let mut piece: ArrayVec<u8, 512> = ArrayVec::new();
+    let _ = piece.try_extend_from_slice(line);
+    piece.push(b'\n');
+    put(sink, &piece)
+}
