@@ -1,4 +1,4 @@
-"""What tests/faults and tests/hostile share: where the program is, and the count of what passed and failed."""
+"""What the scripts of tests share: where the program is, and the count of what passed and failed."""
 
 import os
 import subprocess
