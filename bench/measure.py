@@ -4,7 +4,7 @@ Made jobs: `gen`, `gen run`, `replay`, `audit` and `show` for jobs of 1,000 to 1
 checked that `gen` and `gen run` write the same at each run, that `gen run` writes the last lines of what `replay` writes,
 that its reads and writes are as many as the requests, and that `audit` finds the report right.
 
-Rows: one trace of random requests to 16 rows, `replay` with a header of 16 rows and with one of 65,536. Behind the start,
+Rows: one trace of random requests to 16 rows, `replay` with a header of 16 rows and with one of 65,536. After the start,
 which makes the counters of all rows, a request must take the same time, within a fifth.
 
 Made logs: `audit` for banks of 16 rows and of 65,536, whose rows are drawn from all that there are. What the second takes
@@ -121,7 +121,7 @@ def write_job(name, rows, requests):
 
 
 def same_trace(requests):
-    """Returns the seconds a request behind the start, for each number of rows."""
+    """Returns the seconds per request after the start, for each number of rows."""
     job, report, each = f"{FOLDER}/job", f"{FOLDER}/report", []
     for rows in LOG_ROWS:
         write_job(job, rows, 0)
@@ -130,13 +130,13 @@ def same_trace(requests):
         done = run(["replay"], job, report)
         check(done.status == 0, f"replay with {rows} rows ends with status {done.status}")
         each.append((done.seconds - start.seconds) / requests)
-        print(f"{rows:>9,} rows: {each[-1] * 1e6:.2f} microseconds a request, and {start.seconds * 1e3:.1f} ms for the start")
+        print(f"{rows:>9,} rows: {each[-1] * 1e6:.2f} microseconds per request, and {start.seconds * 1e3:.1f} ms for the start")
     return each
 
 
 def write_log(name, rows, activations):
     """A legal log: eight register writes, and then, bank after bank, ACT, RD and PREpb of rows that are drawn at random,
-    with a refresh of all banks in each interval. Returns the number of its lines behind the opening."""
+    with a refresh of all banks in each interval. Returns the number of its lines after the opening."""
     ath, eth, raaimt, raammt = 1000, 1000, 255, 1023
     settings = [("rows", rows), ("ath", ath), ("eth", eth), ("raaimt", raaimt), ("raammt", raammt)]
     bits = (ath >> 8) | (eth >> 8) << 2 | (raammt >> 8) << 4
