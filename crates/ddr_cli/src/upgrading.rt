@@ -45,11 +45,7 @@ pub fn upgrade<S: Source, K: Sink>(alloc: Global, source: &mut S, sink: &mut K) 
 }
 
 // Writes the text of the header, and its separator in version 2.
-fn put_heading<K: Sink>(
-    text: &HeaderText,
-    separator: &HeaderText,
-    sink: &mut K,
-) -> Result<(), Stop>
+fn put_heading<K: Sink>(text: &HeaderText, separator: &HeaderText, sink: &mut K) -> Result<(), Stop>
     requires { (line : List ℕ) × (separator.now ≡ with_feed line) }
     ensures whole { (line : List ℕ) → separator.now ≡ with_feed line → OnOk result (Appends (K.written sink.old) (K.written sink.new) (text.now ++ with_feed (newer line))) }
     ensures cut { (line : List ℕ) → separator.now ≡ with_feed line → IfErr result (λ stop. AppendsPrefix (K.written sink.old) (K.written sink.new) (text.now ++ with_feed (newer line))) }

@@ -81,8 +81,8 @@ divided trace h run number clock r k c cs same sound rises apart idles true e =
     let f = found k (is_apart trace own) (λ b. nat_lt b.clock clock) run apart (older h trace run clock sound rises) e in
     let before_it = ltb-true f.serving.clock clock f.second in
     let behind_it = past-clock c cs (idles_between trace number f.serving.number) clock f.serving.clock
-        (ap (λ n. idles_between trace n f.serving.number) same ∙ ap (idles_between trace r) f.number ∙ idles)
-        (and-left (is_past (idles_between trace number f.serving.number) clock f.serving.clock) (is_past (idles_between trace f.serving.number number) f.serving.clock clock) f.first) in
+    (ap (λ n. idles_between trace n f.serving.number) same ∙ ap (idles_between trace r) f.number ∙ idles)
+    (and-left (is_past (idles_between trace number f.serving.number) clock f.serving.clock) (is_past (idles_between trace f.serving.number number) f.serving.clock clock) f.first) in
     absurd (omega (arith, before_it, behind_it))
 
 or-rest : (b rest : Bool) → (b || rest) ≡ true → rest ≡ false → b ≡ true
@@ -205,24 +205,24 @@ capped-ages h trace run cap earlier later r sound apart served_it capped e =
     let p : ℕ → Bool = λ k. nat_lt r.number k && is_served k (before r.number run) in
     let number : r.number ≡ suc f.place = omega (arith, f.number) in
     let in_front : counted p (requests_from 1 front) ≡ [] =
-        front-none p 1 (1 + length front) (requests_from 1 front) (Between-asked 1 front (1 + length front) refl)
-        (λ k lt. not-later r.number k (is_served k (before r.number run)) (omega (arith, number, lt, s.long))) in
+    front-none p 1 (1 + length front) (requests_from 1 front) (Between-asked 1 front (1 + length front) refl)
+    (λ k lt. not-later r.number k (is_served k (before r.number run)) (omega (arith, number, lt, s.long))) in
     let own : counted p (request_of r.number f.line) ≡ [] = ap (counted p) f.is ∙ cond-none (p r.number) r [] (not-later r.number r.number (is_served r.number (before r.number run)) (omega arith)) refl in
     let whole : requests trace ≡ requests_from 1 front ++ (request_of r.number f.line ++ requests_from (suc r.number) rest) =
-        ap requests s.parts ∙ requests-append 1 front (f.line ∷ rest) r.number (omega (arith, number, s.long)) in
+    ap requests s.parts ∙ requests-append 1 front (f.line ∷ rest) r.number (omega (arith, number, s.long)) in
     let few = count-free p (suc r.number) 2 rest
-        (λ j c cs idles.
-        and-false (nat_lt r.number (suc r.number + j)) (is_served (suc r.number + j) (before r.number run))
-        (not-overtaken h trace run r.number (suc r.number + j) c cs
-        (ap (λ n. idle_clocks (take n (drop r.number trace))) (let k : suc r.number + j - 1 - r.number ≡ j = omega arith in k) ∙ ap (λ n. idle_clocks (take j (drop n trace))) number ∙ idles)
-        sound apart served_it)) in
+    (λ j c cs idles.
+    and-false (nat_lt r.number (suc r.number + j)) (is_served (suc r.number + j) (before r.number run))
+    (not-overtaken h trace run r.number (suc r.number + j) c cs
+    (ap (λ n. idle_clocks (take n (drop r.number trace))) (let k : suc r.number + j - 1 - r.number ≡ j = omega arith in k) ∙ ap (λ n. idle_clocks (take j (drop n trace))) number ∙ idles)
+    sound apart served_it)) in
     let q = is-request r.number f.line r (up_to_idle rest) f.is in
     let within = capped front (f.line ∷ up_to_idle rest) (from_idle rest) (s.parts ∙ ap (λ l. front ++ f.line ∷ l) (idle-parts rest)) (q.1 ∙ idle-none rest) in
     let same : overtaking trace run r ≡ counted p (requests_from (suc r.number) rest) =
-        ap (counted p) whole
-        ∙ filter-append (λ v. p v.number) (requests_from 1 front) (request_of r.number f.line ++ requests_from (suc r.number) rest)
-        ∙ ap (λ l. l ++ counted p (request_of r.number f.line ++ requests_from (suc r.number) rest)) in_front
-        ∙ filter-append (λ v. p v.number) (request_of r.number f.line) (requests_from (suc r.number) rest)
-        ∙ ap (λ l. l ++ counted p (requests_from (suc r.number) rest)) own in
+    ap (counted p) whole
+    ∙ filter-append (λ v. p v.number) (requests_from 1 front) (request_of r.number f.line ++ requests_from (suc r.number) rest)
+    ∙ ap (λ l. l ++ counted p (request_of r.number f.line ++ requests_from (suc r.number) rest)) in_front
+    ∙ filter-append (λ v. p v.number) (request_of r.number f.line) (requests_from (suc r.number) rest)
+    ∙ ap (λ l. l ++ counted p (requests_from (suc r.number) rest)) own in
     let long = ap length same in
     omega (arith, long, few, q.0, within)

@@ -268,7 +268,7 @@ pub flipped : {T E : Type 0} (r : Result T E) (held : HeldLaw) (c : Coupled) (de
     → OnOk r ((h : Header) (steps : List DeviceStep) → DeviceFor c.device h steps → IsBit h place at bit → DeviceFor device h (Turns place at bit ∷ steps))
     → IsBit (controller_header c.controller) place at bit
     → OnOk r ((h : Header) (offered : List Request) (idle : ℕ) (steps : List Step) → StandsFor c h offered idle steps
-        → StandsFor (record { controller = c.controller; device = device; pending = c.pending; alert = c.alert }) h offered idle (Flips place at bit ∷ steps))
+    → StandsFor (record { controller = c.controller; device = device; pending = c.pending; alert = c.alert }) h offered idle (Flips place at bit ∷ steps))
 unfolding StandsFor
 flipped (Ok x) held c device place at bit turned is = λ h offered idle steps s.
     with_bit c device h offered idle steps place at bit s (turned h (device_steps steps) s.device (bit_of held c h offered idle steps place at bit s is))
@@ -277,7 +277,7 @@ flipped (Err e) held c device place at bit turned is = tt
 -- where memory is wanting, every list that was stood for is stood for still
 pub unchanged : {T E : Type 0} (r : Result T E) (stays : StaysLaw) (c : Coupled) (device : DeviceHeld) → OnErr r (IsUnchanged c.device device)
     → OnErr r ((h : Header) (offered : List Request) (idle : ℕ) (steps : List Step) → StandsFor c h offered idle steps
-        → StandsFor (record { controller = c.controller; device = device; pending = c.pending; alert = c.alert }) h offered idle steps)
+    → StandsFor (record { controller = c.controller; device = device; pending = c.pending; alert = c.alert }) h offered idle steps)
 unfolding StandsFor
 unchanged (Ok x) stays c device same = tt
 unchanged (Err e) stays c device same = λ h offered idle steps s.
