@@ -9,7 +9,7 @@ use Rattle.ddr_text.specs.declared.lines.TraceLine.{TraceLine}
 use Rattle.ddr_text.specs.declared.lines.TraceLine.TheVariants.{Read, Write, Flip, Idle}
 use Rattle.reports.specs.Barriers.{idle_clocks}
 use Rattle.reports.specs.Requests.{requests_from}
-use Rattle.fair_queue.specs.Ages.{IsCapped}
+use Rattle.reports.specs.Ages.{IsCapped}
 use Rattle.fair_queue.specs.Merged.{barred, barrier, is_due, is_request, one_more}
 use Rattle.fair_queue.specs.Parsed.{AreRead}
 

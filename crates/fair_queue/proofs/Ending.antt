@@ -13,7 +13,7 @@ use Rattle.fair_queue.specs.Merging.{Merges, BeginsToMerge, GivesIf, ReadsToEnd}
 use Rattle.fair_queue.specs.Reading.{Place, EndsAt, EndsWith, IsStopped, left_in, left_behind, is_bad}
 use Rattle.fair_queue.specs.declared.port_lines.Ahead.{Ahead}
 use Rattle.fair_queue.specs.declared.port_lines.Ahead.TheVariants.{Unknown, Waits, Bad, End}
-use Rattle.fair_queue.proofs.Pieces.{prefix-behind}
+use Rattle.ddr_text.proofs.Prefixes.{prefix-behind}
 use Rattle.fair_queue.proofs.Rounding.{AreFull, IsFilled}
 use Rattle.fair_queue.proofs.Rounds.{text-none}
 

@@ -10,7 +10,6 @@ pub mod Order
 pub mod Alternating
 pub mod Fair
 pub mod Clean
-pub mod Overtaking
 pub mod Capped
 pub mod Traced
 pub mod Served

@@ -10,10 +10,11 @@ use Rattle.ddr_text.specs.Opening.{IsOpening}
 use Rattle.ddr_text.specs.declared.opening.Opening.{Opening}
 use Rattle.ddr_text.specs.declared.opening.Opening.TheVariants.{Accepted, Refused, Failed}
 use Rattle.speed_bin.specs.declared.header.Header.{Header}
-use Rattle.fair_queue.specs.Answering.{BehindAnswers, JobBeginsToMerge, JobMerges, MergeAnswers, Outcome, ReadsBehind, RefusalAnswers, IsMerged, merged, merged_in, refused_opening}
+use Rattle.ddr_text.specs.Outcome.{Outcome, RefusesLine, refused_opening}
+use Rattle.fair_queue.specs.Answering.{BehindAnswers, JobBeginsToMerge, JobMerges, MergeAnswers, ReadsBehind, IsMerged, IsWhole, merged, merged_in}
 use Rattle.fair_queue.specs.Merged.{merged_behind}
 use Rattle.fair_queue.specs.Merging.{Merges, BeginsToMerge, ReadsToEnd}
-use Rattle.fair_queue.proofs.Pieces.{prefix-behind, prefix-longer, prefix-none}
+use Rattle.ddr_text.proofs.Prefixes.{prefix-behind, prefix-longer, no-prefix}
 
 -- ---- The opening
 
@@ -50,8 +51,8 @@ opening-cut cap opening (Some bytes) before after w = prefix-longer before after
 
 -- nothing was written
 pub nothing-cut : (cap : ℕ) (opening : List ℕ) (start before : Option (List ℕ)) → JobBeginsToMerge cap opening start before before
-nothing-cut cap opening None before = (opening, prefix-none before opening)
-nothing-cut cap opening (Some bytes) before = prefix-none before (opening ++ merged_behind cap bytes)
+nothing-cut cap opening None before = (opening, no-prefix before opening)
+nothing-cut cap opening (Some bytes) before = no-prefix before (opening ++ merged_behind cap bytes)
 
 -- ---- The whole
 
@@ -64,7 +65,7 @@ whole-answer cap h opening (Some bytes) (Some next) new before after (rest, is, 
       (
         merged cap bytes,
         refl,
-        ap (λ o. (merged_in cap o).status) is,
+        sym (ap (λ o. (merged_in cap o).status) is),
         subst (λ (k : Outcome). Appends before after k.text) (sym (ap (merged_in cap) is)) (subst (λ l. Appends before after (opening ++ merged_behind cap l)) same w),
       ),
       subst (λ o. ReadsBehind o new) (sym is) (subst (λ l. ReadsToEnd (Some l) new) same r),
@@ -88,21 +89,14 @@ accepted-answer cap h opening status.Broken old next new before after o b = absu
 accepted-answer cap h opening status.Usage old next new before after o b = absurd b
 
 -- what is written of a job whose opening is refused
-refused-outcome : (cap reason : ℕ) (old next : Option (List ℕ)) → IsOpening old next (Refused reason) → (it : Outcome) × IsMerged cap old it × (it.status ≡ status.Refused) × (it.text ≡ refused_opening reason)
-refused-outcome cap reason None next o = (record { text = refused_opening reason; status = status.Refused }, inr (reason, refl), refl, refl)
-refused-outcome cap reason (Some bytes) next o = (merged cap bytes, refl, ap (λ k. (merged_in cap k).status) o, ap (λ k. (merged_in cap k).text) o)
+refused-outcome : (cap reason : ℕ) (old next : Option (List ℕ)) → IsOpening old next (Refused reason) → IsMerged cap old (refused_opening reason)
+refused-outcome cap reason None next o = inr (reason, refl)
+refused-outcome cap reason (Some bytes) next o = ap (merged_in cap) o
 
-refused-cut : (cap reason : ℕ) (old next before after : Option (List ℕ)) → IsOpening old next (Refused reason) → AppendsPrefix before after (refused_opening reason) → (it : Outcome) × IsMerged cap old it × AppendsPrefix before after it.text
-refused-cut cap reason old next before after o w =
-    let (it, is, answer, text) = refused-outcome cap reason old next o in
-    (it, is, subst (AppendsPrefix before after) (sym text) w)
-
-pub refused-answer : (cap reason : ℕ) (answer : Status) (old next new before after : Option (List ℕ)) → IsOpening old next (Refused reason) → RefusalAnswers answer (refused_opening reason) before after → MergeAnswers cap answer old new before after
-refused-answer cap reason status.Refused old next new before after o w =
-    let (it, is, answer, text) = refused-outcome cap reason old next o in
-    (it, is, answer, subst (Appends before after) (sym text) w)
-refused-answer cap reason status.WriteFault old next new before after o w = refused-cut cap reason old next before after o w
-refused-answer cap reason status.OutOfMemory old next new before after o w = refused-cut cap reason old next before after o w
+pub refused-answer : (cap reason : ℕ) (answer : Status) (old next new before after : Option (List ℕ)) → IsOpening old next (Refused reason) → RefusesLine answer 0 reason before after → MergeAnswers cap answer old new before after
+refused-answer cap reason status.Refused old next new before after o w = (refused_opening reason, refused-outcome cap reason old next o, refl, w)
+refused-answer cap reason status.WriteFault old next new before after o w = (refused_opening reason, refused-outcome cap reason old next o, w)
+refused-answer cap reason status.OutOfMemory old next new before after o w = (refused_opening reason, refused-outcome cap reason old next o, w)
 refused-answer cap reason status.Ok old next new before after o w = absurd w
 refused-answer cap reason status.ReadFault old next new before after o w = absurd w
 refused-answer cap reason status.Broken old next new before after o w = absurd w
@@ -110,5 +104,10 @@ refused-answer cap reason status.Usage old next new before after o w = absurd w
 
 -- nothing was written
 pub nothing-answer : (cap : ℕ) (old before : Option (List ℕ)) → (it : Outcome) × IsMerged cap old it × AppendsPrefix before before it.text
-nothing-answer cap None before = (record { text = []; status = status.Ok }, inl refl, prefix-none before [])
-nothing-answer cap (Some bytes) before = (merged cap bytes, refl, prefix-none before (merged cap bytes).text)
+nothing-answer cap None before = (record { text = []; status = status.Ok }, inl refl, no-prefix before [])
+nothing-answer cap (Some bytes) before = (merged cap bytes, refl, no-prefix before (merged cap bytes).text)
+
+-- a merge that was written whole met no fault
+pub whole-no_fault : (answer : Status) → IsWhole answer → answer ≡ status.WriteFault → ⊥
+whole-no_fault answer (inl is) e = let f : status.Ok ≡ status.WriteFault = sym is ∙ e in cc
+whole-no_fault answer (inr is) e = let f : status.Refused ≡ status.WriteFault = sym is ∙ e in cc

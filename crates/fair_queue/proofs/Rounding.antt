@@ -12,7 +12,8 @@ use Rattle.fair_queue.specs.Merged.{barriers, one_more, is_request, merged_behin
 use Rattle.fair_queue.specs.Merging.{BeginsToMerge, GivesIf, HasMerged, IsSettled}
 use Rattle.fair_queue.specs.Reading.{Place, AreKept, EndsAt, Fills, IsSteady, left_in, waiting}
 use Rattle.fair_queue.specs.declared.port_lines.Ahead.TheVariants.{Unknown}
-use Rattle.fair_queue.proofs.Pieces.{appends-none, prefix-behind, prefix-longer, prefix-whole}
+use Rattle.ddr_text.proofs.Prefixes.{prefix-behind, prefix-longer, prefix-whole}
+use Rattle.fair_queue.proofs.Pieces.{appends-none}
 use Rattle.fair_queue.proofs.Searching.{found-full}
 use Rattle.fair_queue.proofs.Rounds.{again, filled-inside, input-inside, port-below, text-filled, text-next, without-four, without-less}
 

@@ -5,6 +5,7 @@ use Rattle.command_words.specs.Geometry.{Shape}
 use Rattle.ddr_io.specs.declared.status.Status.{Status}
 use Rattle.ddr_io.specs.declared.status.Status.TheVariants as status
 use Rattle.ddr_text.specs.Opening.{Accepts, Opens, Refuses, opening_of}
+use Rattle.ddr_text.specs.Outcome.{Outcome, RefusesLine, refused_opening}
 use Rattle.ddr_text.specs.declared.lines.TraceLine.{TraceLine}
 use Rattle.reports.specs.Requests.{Request, requests}
 use Rattle.reports.specs.Runs.{Run}
@@ -12,9 +13,9 @@ use Rattle.reports.specs.Sound.{IsRun}
 use Rattle.speed_bin.specs.Header.{shape_of}
 use Rattle.speed_bin.specs.declared.header.Header.{Header}
 use Rattle.trace_replay.specs.Job.{IsJobOf, Traced, trace_of}
-use Rattle.trace_replay.specs.Replay.{Answers, JobAnswers, OpeningAnswers, PartAnswers, Reports, StopAnswers}
-use Rattle.fair_queue.specs.Ages.{IsCapped, overtaking}
-use Rattle.fair_queue.specs.Answering.{Outcome, IsMerged, ReadsInput, RefusalAnswers, merged, merged_in, refused_opening}
+use Rattle.trace_replay.specs.Replay.{Answers, JobAnswers, PartAnswers, Reports, StopAnswers}
+use Rattle.reports.specs.Ages.{IsCapped, overtaking}
+use Rattle.fair_queue.specs.Answering.{IsMerged, ReadsInput, RefusalAnswers, merged, merged_in}
 use Rattle.fair_queue.specs.Merged.{merged_behind}
 use Rattle.fair_queue.specs.Serving.{IsPortsJob, IsUnmerged, KeepsAges, PortsAnswers, ServesIf}
 
@@ -112,7 +113,7 @@ of-part cap status.OutOfMemory old new h text trace before after other p = absur
 of-part cap status.Usage old new h text trace before after other p = absurd p
 of-part cap status.Broken old new h text trace before after other p = absurd p
 
-of-opening : (cap : ℕ) (answer : Status) (old new : Option (List ℕ)) (reason : ℕ) (before after : Option (List ℕ)) → IsUnmerged old reason → OpeningAnswers answer reason before after → PortsAnswers cap answer old new before after
+of-opening : (cap : ℕ) (answer : Status) (old new : Option (List ℕ)) (reason : ℕ) (before after : Option (List ℕ)) → IsUnmerged old reason → RefusesLine answer 0 reason before after → PortsAnswers cap answer old new before after
 of-opening cap status.Refused old new reason before after u o = inr (reason, u, o)
 of-opening cap status.WriteFault old new reason before after u o = inr (reason, u, o)
 of-opening cap status.OutOfMemory old new reason before after u o = inr (inl (reason, u, o))
@@ -139,23 +140,23 @@ served-of laws cap one answer old new it job left before after is fine same read
 served-of laws cap one answer old new it job left before after is fine same read other (inr (inr (inr s))) = of-stop cap answer old new (Some job) left before after other s
 
 -- the answer of a replay of what a merge wrote
-pub served : Laws → (cap : ℕ) → 1 ≤ cap → (answer : Status) (old new : Option (List ℕ)) (first job other : List ℕ) (before after : Option (List ℕ)) → first ≡ [] → other ≡ job → (((it : Outcome) × IsMerged cap old it × (it.status ≡ status.Ok) × Appends (Some first) (Some job) it.text) × ReadsInput old new)
+pub served : Laws → (cap : ℕ) → 1 ≤ cap → (answer : Status) (old new : Option (List ℕ)) (first job other : List ℕ) (before after : Option (List ℕ)) → first ≡ [] → other ≡ job → (((it : Outcome) × IsMerged cap old it × (status.Ok ≡ it.status) × Appends (Some first) (Some job) it.text) × ReadsInput old new)
     → answer ≢ status.ReadFault → ((left : Option (List ℕ)) × Answers answer (Some other) left before after) → PortsAnswers cap answer old new before after
 served laws cap one answer old new first job other before after begun same ((it, is, fine, wrote), read) none (left, a) =
-    served-of laws cap one answer old new it other left before after is fine (same ∙ wrote ∙ ap (λ l. l ++ it.text) begun) read none a
+    served-of laws cap one answer old new it other left before after is (sym fine) (same ∙ wrote ∙ ap (λ l. l ++ it.text) begun) read none a
 
 -- ---- The opening is refused
 
-refused-of : (cap : ℕ) (old : Option (List ℕ)) (it : Outcome) → IsMerged cap old it → it.status ≡ status.Refused → (reason : ℕ) × IsUnmerged old reason × (it.text ≡ refused_opening reason)
+refused-of : (cap : ℕ) (old : Option (List ℕ)) (it : Outcome) → IsMerged cap old it → it.status ≡ status.Refused → (reason : ℕ) × IsUnmerged old reason × (it.text ≡ (refused_opening reason).text)
 refused-of cap None it (inl fine) e = let f : status.Ok ≡ status.Refused = sym fine ∙ e in cc
 refused-of cap None it (inr (reason, is)) e = (reason, tt, ap (λ (k : Outcome). k.text) is)
 refused-of cap (Some bytes) it is e = go (opening_of bytes) refl (ap (λ (k : Outcome). k.status) is ∙ e) (ap (λ (k : Outcome). k.text) (sym is))
   where
-    go : (o : Opens) → opening_of bytes ≡ o → (merged_in cap o).status ≡ status.Refused → it.text ≡ (merged_in cap o).text → (reason : ℕ) × (opening_of bytes ≡ Refuses reason) × (it.text ≡ refused_opening reason)
+    go : (o : Opens) → opening_of bytes ≡ o → (merged_in cap o).status ≡ status.Refused → it.text ≡ (merged_in cap o).text → (reason : ℕ) × (opening_of bytes ≡ Refuses reason) × (it.text ≡ (refused_opening reason).text)
     go (Accepts h text rest) is e same = cc
     go (Refuses reason) is e same = (reason, is, same)
 
-of-refusal : (cap : ℕ) (answer : Status) (old new : Option (List ℕ)) (reason : ℕ) (before after : Option (List ℕ)) → IsUnmerged old reason → RefusalAnswers answer (refused_opening reason) before after → PortsAnswers cap answer old new before after
+of-refusal : (cap : ℕ) (answer : Status) (old new : Option (List ℕ)) (reason : ℕ) (before after : Option (List ℕ)) → IsUnmerged old reason → RefusalAnswers answer (refused_opening reason).text before after → PortsAnswers cap answer old new before after
 of-refusal cap status.Refused old new reason before after u o = inr (reason, u, o)
 of-refusal cap status.WriteFault old new reason before after u o = inr (reason, u, o)
 of-refusal cap status.OutOfMemory old new reason before after u o = inr (inl (reason, u, o))
@@ -165,8 +166,8 @@ of-refusal cap status.Usage old new reason before after u o = absurd o
 of-refusal cap status.Broken old new reason before after u o = absurd o
 
 -- the answer where a merge wrote an X line
-pub refused : (cap : ℕ) (answer : Status) (old new : Option (List ℕ)) (first job line : List ℕ) (before after : Option (List ℕ)) → first ≡ [] → line ≡ job → ((it : Outcome) × IsMerged cap old it × (it.status ≡ status.Refused) × Appends (Some first) (Some job) it.text)
+pub refused : (cap : ℕ) (answer : Status) (old new : Option (List ℕ)) (first job line : List ℕ) (before after : Option (List ℕ)) → first ≡ [] → line ≡ job → ((it : Outcome) × IsMerged cap old it × (status.Refused ≡ it.status) × Appends (Some first) (Some job) it.text)
     → RefusalAnswers answer line before after → PortsAnswers cap answer old new before after
 refused cap answer old new first job line before after begun same (it, is, fine, wrote) a =
-    let (reason, u, text) = refused-of cap old it is fine in
+    let (reason, u, text) = refused-of cap old it is (sym fine) in
     of-refusal cap answer old new reason before after u (subst (λ l. RefusalAnswers answer l before after) (same ∙ wrote ∙ ap (λ l. l ++ it.text) begun ∙ text) a)

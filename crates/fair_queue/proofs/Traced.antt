@@ -13,7 +13,7 @@ use Rattle.ddr_text.specs.declared.lines.TraceLine.{TraceLine}
 use Rattle.reports.specs.Barriers.{idle_clocks}
 use Rattle.trace_replay.specs.Job.{at_end, clocks_of, continued, if_read, is_full, trace_from, trace_of, with_part}
 use Rattle.ddr_text.specs.Accepted.{TraceGrammar}
-use Rattle.fair_queue.specs.Ages.{IsCapped}
+use Rattle.reports.specs.Ages.{IsCapped}
 use Rattle.fair_queue.specs.Merged.{barred, barrier, ending, is_due, is_request, one_more}
 use Rattle.fair_queue.specs.Parsed.{AreLines, AreRead}
 use Rattle.fair_queue.proofs.Capped.{merged-capped}

@@ -6,26 +6,16 @@ use Rattle.ddr_io.specs.Sink.{AppendsPrefix}
 use Rattle.ddr_io.specs.declared.status.Status.{Status}
 use Rattle.ddr_io.specs.declared.status.Status.TheVariants as status
 use Rattle.ddr_text.specs.Opening.{Opens, Accepts, Refuses, opening_of}
-use Rattle.ddr_text.specs.Spelling.{spelled}
-use Rattle.ddr_text.specs.declared.lines.ReportLine.TheVariants.{Refused as RefusedLine}
+use Rattle.ddr_text.specs.Outcome.{Outcome, BeginsAs, EndsAs, refused_opening}
 use Rattle.fair_queue.specs.Merged.{merged_behind}
 use Rattle.fair_queue.specs.Merging.{ReadsToEnd}
 
 -- ---- What is written
 
--- what is written, and with which status
-pub record Outcome : Type 0 where
-  pub text : List ℕ
-  pub status : Status
-
--- the one line where the opening is refused
-abbrev pub refused_opening : ℕ → List ℕ
-refused_opening reason = spelled (RefusedLine 0 reason)
-
 -- the opening as it stands, and the merged lines; or the X line
 abbrev pub merged_in : ℕ → Opens → Outcome
 merged_in cap (Accepts h text rest) = record { text = text ++ merged_behind cap rest; status = status.Ok }
-merged_in cap (Refuses reason) = record { text = refused_opening reason; status = status.Refused }
+merged_in cap (Refuses reason) = refused_opening reason
 
 -- the merge of the bytes of a job whose lines are those of ports
 abbrev pub merged : ℕ → List ℕ → Outcome
@@ -33,7 +23,7 @@ merged cap bytes = merged_in cap (opening_of bytes)
 
 -- that is it, where the bytes are known; else it may be of an opening that is refused, or not
 abbrev pub IsMerged : ℕ → Option (List ℕ) → Outcome → Type 0
-IsMerged cap None it = (it.status ≡ status.Ok) ⊎ ((reason : ℕ) × (it ≡ record { text = refused_opening reason; status = status.Refused }))
+IsMerged cap None it = (it.status ≡ status.Ok) ⊎ ((reason : ℕ) × (it ≡ refused_opening reason))
 IsMerged cap (Some bytes) it = merged cap bytes ≡ it
 
 -- the bytes behind an opening were read to their end, if none of their lines is bad
@@ -49,11 +39,11 @@ ReadsInput (Some bytes) left = ReadsBehind (opening_of bytes) left
 -- ---- The answer
 
 abbrev pub MergeAnswers : ℕ → Status → Option (List ℕ) → Option (List ℕ) → Option (List ℕ) → Option (List ℕ) → Type 0
-MergeAnswers cap status.Ok old new before after = ((it : Outcome) × IsMerged cap old it × (it.status ≡ status.Ok) × Appends before after it.text) × ReadsInput old new
-MergeAnswers cap status.Refused old new before after = (it : Outcome) × IsMerged cap old it × (it.status ≡ status.Refused) × Appends before after it.text
-MergeAnswers cap status.ReadFault old new before after = (it : Outcome) × IsMerged cap old it × AppendsPrefix before after it.text
-MergeAnswers cap status.WriteFault old new before after = (it : Outcome) × IsMerged cap old it × AppendsPrefix before after it.text
-MergeAnswers cap status.OutOfMemory old new before after = (it : Outcome) × IsMerged cap old it × AppendsPrefix before after it.text
+MergeAnswers cap status.Ok old new before after = EndsAs (IsMerged cap old) status.Ok before after × ReadsInput old new
+MergeAnswers cap status.Refused old new before after = EndsAs (IsMerged cap old) status.Refused before after
+MergeAnswers cap status.ReadFault old new before after = BeginsAs (IsMerged cap old) before after
+MergeAnswers cap status.WriteFault old new before after = BeginsAs (IsMerged cap old) before after
+MergeAnswers cap status.OutOfMemory old new before after = BeginsAs (IsMerged cap old) before after
 MergeAnswers cap status.Broken old new before after = ⊥
 MergeAnswers cap status.Usage old new before after = ⊥
 

@@ -2,11 +2,9 @@ pub mod Arrivals
 pub mod Machine
 pub mod Merged
 pub mod Reading
-pub mod Stop
 pub mod Admitting
 pub mod Merging
 pub mod Answering
 pub mod Turns
 pub mod Parsed
-pub mod Ages
 pub mod Serving

@@ -8,8 +8,8 @@ use Rattle.fair_queue.specs.Arrivals.{AreInside, input_of}
 use Rattle.fair_queue.specs.Machine.{Queued, in_queues}
 use Rattle.fair_queue.specs.Merged.{merged_behind, text_from}
 use Rattle.fair_queue.specs.Reading.{Place, left_in, waiting}
-use Rattle.fair_queue.specs.declared.stop.Stop.{Stop}
-use Rattle.fair_queue.specs.declared.stop.Stop.TheVariants.{ReadFault, WriteFault, OutOfMemory}
+use Rattle.ddr_text.specs.declared.stop.Stop.{Stop}
+use Rattle.ddr_text.specs.declared.stop.Stop.TheVariants.{ReadFault, WriteFault, OutOfMemory}
 
 -- these are the merged lines of the bytes behind an opening, where those are known
 abbrev pub IsMergeOf : ℕ → Option (List ℕ) → List ℕ → Type 0

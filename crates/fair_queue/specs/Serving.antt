@@ -7,6 +7,7 @@ use Rattle.ddr_io.specs.Sink.{AppendsPrefix}
 use Rattle.ddr_io.specs.declared.status.Status.{Status}
 use Rattle.ddr_io.specs.declared.status.Status.TheVariants as status
 use Rattle.ddr_text.specs.Opening.{Accepts, Refuses, opening_of}
+use Rattle.ddr_text.specs.Outcome.{refused_opening}
 use Rattle.ddr_text.specs.Spelling.{spelled}
 use Rattle.ddr_text.specs.declared.lines.TraceLine.{TraceLine}
 use Rattle.speed_bin.specs.Header.{shape_of}
@@ -18,8 +19,8 @@ use Rattle.reports.specs.Sound.{IsRun}
 use Rattle.reports.specs.Whole.{whole}
 use Rattle.trace_replay.specs.Job.{IsJobOf, trace_of}
 use Rattle.trace_replay.specs.Replay.{Reports, Starts, refusal_of}
-use Rattle.fair_queue.specs.Ages.{overtaking}
-use Rattle.fair_queue.specs.Answering.{ReadsInput, refused_opening}
+use Rattle.reports.specs.Ages.{overtaking}
+use Rattle.fair_queue.specs.Answering.{ReadsInput}
 use Rattle.fair_queue.specs.Merged.{merged_behind}
 
 -- ---- The merged job
@@ -66,13 +67,13 @@ PortsAnswers cap status.Ok old new before after =
     ((h : Header) × (text : List ℕ) × (trace : List TraceLine) × IsPortsJob cap old h text trace None × ServesIf cap old h text trace None before after) × ReadsInput old new
 PortsAnswers cap status.Refused old new before after =
     (((h : Header) × (text : List ℕ) × (trace : List TraceLine) × (refused : Option ℕ) × IsPortsJob cap old h text trace refused × IsSome refused × ServesIf cap old h text trace refused before after) × ReadsInput old new)
-    ⊎ ((reason : ℕ) × IsUnmerged old reason × Appends before after (refused_opening reason))
+    ⊎ ((reason : ℕ) × IsUnmerged old reason × Appends before after (refused_opening reason).text)
 PortsAnswers cap status.WriteFault old new before after =
     ((h : Header) × (text : List ℕ) × (trace : List TraceLine) × (refused : Option ℕ) × IsPortsJob cap old h text trace refused × Starts h text trace refused before after)
-    ⊎ ((reason : ℕ) × IsUnmerged old reason × AppendsPrefix before after (refused_opening reason))
+    ⊎ ((reason : ℕ) × IsUnmerged old reason × AppendsPrefix before after (refused_opening reason).text)
 PortsAnswers cap status.OutOfMemory old new before after =
     ((h : Header) × (text : List ℕ) × (trace : List TraceLine) × (refused : Option ℕ) × IsPortsJob cap old h text trace refused × Starts h text trace refused before after)
-    ⊎ (((reason : ℕ) × IsUnmerged old reason × AppendsPrefix before after (refused_opening reason))
+    ⊎ (((reason : ℕ) × IsUnmerged old reason × AppendsPrefix before after (refused_opening reason).text)
     ⊎ Keeps before after)
 -- nothing was written
 PortsAnswers cap status.ReadFault old new before after = Keeps before after

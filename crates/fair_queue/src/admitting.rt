@@ -4,11 +4,11 @@ ghost use Rattle.ddr_io.specs.Line.{next_bytes};
 ghost use Rattle.fair_queue.specs.Machine.{empty};
 ghost use Rattle.fair_queue.specs.Merging.{Merges, BeginsToMerge, ReadsToEnd, StopCause};
 ghost use Rattle.fair_queue.specs.Reading.{AreKept, EndsAt, Fills, IsSteady, IsStopped};
-ghost use Rattle.fair_queue.specs.Stop.{ReadCause};
+ghost use Rattle.ddr_text.specs.Stop.{ReadCause};
 
 use crate::port_lines::{Ahead, PortLines};
 use crate::queues::Queues;
-use crate::stop::Stop;
+use ddr_text::Stop;
 use crate::writing::{put_ending, put_rest};
 use ddr_io::{Sink, Source};
 

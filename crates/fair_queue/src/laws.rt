@@ -1,13 +1,8 @@
 //! Laws over the definitions of a merge (`specs/`). None of them does anything.
-ghost use Rattle.std.specs.Prelude.{ℕ, ◌≡◌, ◌≤◌, ◌<◌, ◌∷◌, ◌++◌, List, length};
-ghost use Rattle.ddr_text.specs.declared.lines.TraceLine.{TraceLine};
-ghost use Rattle.speed_bin.specs.declared.header.Header.{Header};
-ghost use Rattle.reports.specs.Requests.{Request, requests};
-ghost use Rattle.reports.specs.Runs.{Run};
-ghost use Rattle.reports.specs.Sound.{IsRun};
+ghost use Rattle.std.specs.Prelude.{ℕ, ◌≤◌, List};
 ghost use Rattle.command_words.specs.Geometry.{Shape};
 ghost use Rattle.trace_replay.specs.Job.{trace_of};
-ghost use Rattle.fair_queue.specs.Ages.{IsCapped, overtaking};
+ghost use Rattle.reports.specs.Ages.{IsCapped};
 ghost use Rattle.fair_queue.specs.Arrivals.{input_of};
 ghost use Rattle.fair_queue.specs.Merged.{merged_behind};
 ghost use Rattle.fair_queue.specs.Turns.{IsFair};
@@ -24,11 +19,3 @@ pub fn caps_requests()
 {
     ddr_text::trace_grammar();
 }
-
-/// Of a finished run of a trace in which no more than `cap` requests stand in a row without an I line between them, fewer
-/// than `cap` requests with a greater number are served before any given request.
-pub fn caps_ages()
-    ensures { (h : Header) (trace : List TraceLine) (run : Run) (clock cap : ℕ) (earlier later : List Request) (r : Request)
-        → IsRun h trace run clock → IsCapped cap trace → requests trace ≡ earlier ++ r ∷ later
-        → length (overtaking trace run r) < cap }
-{}

@@ -9,7 +9,6 @@ mod merging;
 mod port_lines;
 mod queues;
 mod rest;
-mod stop;
 #[cfg(test)]
 mod tests;
 mod writing;

@@ -9,9 +9,8 @@ ghost use Rattle.fair_queue.specs.Arrivals.{input_of};
 ghost use Rattle.fair_queue.specs.Serving.{PortsAnswers};
 ghost use Rattle.fair_queue.specs.Turns.{IsFair};
 
-use crate::laws::{caps_ages, caps_requests, merges_fairly};
+use crate::laws::{caps_requests, merges_fairly};
 use crate::merging::merge;
-use crate::writing::put_bytes;
 use ddr_io::{PlainSink, PlainSource, Sink, Source, Status};
 use std::alloc::Global;
 use trace_replay::replay;
@@ -35,7 +34,7 @@ pub fn ports<S: Source, K: Sink>(alloc: Global, cap: u32, source: &mut S, sink: 
 {
     ddr_text::laws::opening_opens_again();
     caps_requests();
-    caps_ages();
+    reports::laws::caps_ages();
     merges_fairly();
     let mut job = PlainSink::new(alloc);
     match merge(alloc, cap, source, &mut job) {
@@ -68,7 +67,7 @@ fn refuse<K: Sink>(line: &[u8], sink: &mut K) -> Status
     ensures write { result ≡ Status.WriteFault → Rose (K.faults sink.old) (K.faults sink.new) }
     ensures kept { IsWhole result → K.faults sink.new ≡ K.faults sink.old }
 {
-    match put_bytes(line, sink) {
+    match ddr_text::put(line, sink) {
         Ok(()) => Status::Refused,
         Err(stop) => stop.status(),
     }

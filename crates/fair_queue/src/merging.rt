@@ -4,7 +4,7 @@ ghost use Rattle.ddr_io.specs.Faults.{Rose};
 ghost use Rattle.ddr_io.specs.Line.{next_bytes};
 ghost use Rattle.ddr_text.specs.Opening.{Accepts, opening_of};
 ghost use Rattle.speed_bin.specs.declared.header.Header.{Header};
-ghost use Rattle.fair_queue.specs.Answering.{IsWhole, MergeAnswers, BehindAnswers, JobMerges, JobBeginsToMerge, RefusalAnswers, refused_opening};
+ghost use Rattle.fair_queue.specs.Answering.{IsWhole, MergeAnswers, BehindAnswers, JobMerges, JobBeginsToMerge};
 ghost use Rattle.fair_queue.specs.Arrivals.{input_of};
 ghost use Rattle.fair_queue.specs.Machine.{empty};
 ghost use Rattle.fair_queue.specs.Merging.{ReadsToEnd, StopCause};
@@ -14,10 +14,8 @@ use crate::admitting::merge_lines;
 use crate::laws::merges_fairly;
 use crate::port_lines::PortLines;
 use crate::queues::Queues;
-use crate::stop::Stop;
-use crate::writing::{put_line, put_opening};
 use ddr_io::{Line, LineReader, OutOfMemory, Sink, Source, Status};
-use ddr_text::{HeaderText, Opening, ReportLine, open_job};
+use ddr_text::{HeaderText, Opening, Stop, open_job, put_opening, refuse};
 use std::alloc::Global;
 
 /// Reads the lines of four ports behind the opening of a job, and writes one job: the rests of the lines, the ports in turn,
@@ -45,21 +43,9 @@ pub fn merge<S: Source, K: Sink>(alloc: Global, cap: u32, source: &mut S, sink: 
         Ok(Opening::Accepted(_header, text)) => {
             merge_behind(alloc, cap, &text, reader, source, sink)
         }
-        Ok(Opening::Refused(reason)) => refuse_opening(reason, sink),
+        Ok(Opening::Refused(reason)) => refuse(0, reason, sink),
         Ok(Opening::Failed) => Status::ReadFault,
         Err(_) => Status::OutOfMemory,
-    }
-}
-
-// Writes the X line of an opening that is refused.
-fn refuse_opening<K: Sink>(reason: u8, sink: &mut K) -> Status
-    ensures answer { RefusalAnswers result (refused_opening reason) (K.written sink.old) (K.written sink.new) }
-    ensures write { result ≡ Status.WriteFault → Rose (K.faults sink.old) (K.faults sink.new) }
-    ensures kept { IsWhole result → K.faults sink.new ≡ K.faults sink.old }
-{
-    match put_line(&ReportLine::Refused(0, reason), sink) {
-        Ok(()) => Status::Refused,
-        Err(stop) => stop.status(),
     }
 }
 

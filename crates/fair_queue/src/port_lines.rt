@@ -3,10 +3,10 @@ ghost use Rattle.std.specs.Prelude.{ℕ, ◌≡◌, ◌≢◌, ◌+◌, ◌-◌,
 ghost use Rattle.ddr_io.specs.Line.{next_bytes};
 ghost use Rattle.fair_queue.specs.Arrivals.{framed, arrival_of, is_port};
 ghost use Rattle.fair_queue.specs.Reading.{IsSame, IsKnown, EndsAt, IsFramed, Frames, IsWaiting, is_bad, port_in, waiting, with_ahead};
-ghost use Rattle.fair_queue.specs.Stop.{ReadCause};
+ghost use Rattle.ddr_text.specs.Stop.{ReadCause};
 
 use crate::rest::Rest;
-use crate::stop::Stop;
+use ddr_text::Stop;
 use ddr_io::{Line, LineReader, Source};
 use std::marker::Model;
 

@@ -4,54 +4,13 @@ ghost use Rattle.std.specs.List.{flat_map};
 ghost use Rattle.std.specs.Io.KnownBytes.{Appends};
 ghost use Rattle.ddr_io.specs.Sink.{AppendsPrefix};
 ghost use Rattle.ddr_text.specs.Opening.{with_feed};
-ghost use Rattle.ddr_text.specs.Spelling.{spelled};
 ghost use Rattle.fair_queue.specs.Merged.{barriers, barrier, ending, is_due, is_request, one_more};
-ghost use Rattle.fair_queue.specs.Stop.{WriteCause};
+ghost use Rattle.ddr_text.specs.Stop.{WriteCause};
 
 use crate::rest::Rest;
-use crate::stop::{Stop, put};
 use arrayvec::ArrayVec;
 use ddr_io::Sink;
-use ddr_text::{HeaderText, ReportLine, write_report_line};
-
-/// Writes the text of the header and its separator as one piece.
-pub(crate) fn put_opening<K: Sink>(text: &HeaderText, sink: &mut K) -> Result<(), Stop>
-    ensures whole { OnOk result (Appends (K.written sink.old) (K.written sink.new) text.now) }
-    ensures cut { IfErr result (λ stop. AppendsPrefix (K.written sink.old) (K.written sink.new) text.now) }
-    ensures later { K.faults sink.old ≤ K.faults sink.new }
-    ensures kept { OnOk result (K.faults sink.new ≡ K.faults sink.old) }
-    ensures cause { IfErr result (WriteCause (K.faults sink.old) (K.faults sink.new)) }
-{
-    put_bytes(text.bytes(), sink)
-}
-
-/// Writes these bytes as one piece.
-pub(crate) fn put_bytes<K: Sink>(bytes: &[u8], sink: &mut K) -> Result<(), Stop>
-    ensures whole { OnOk result (Appends (K.written sink.old) (K.written sink.new) bytes.now) }
-    ensures cut { IfErr result (λ stop. AppendsPrefix (K.written sink.old) (K.written sink.new) bytes.now) }
-    ensures later { K.faults sink.old ≤ K.faults sink.new }
-    ensures kept { OnOk result (K.faults sink.new ≡ K.faults sink.old) }
-    ensures cause { IfErr result (WriteCause (K.faults sink.old) (K.faults sink.new)) }
-{
-    if bytes.is_empty() {
-        return Ok(());
-    }
-    put(sink, bytes)
-}
-
-/// Writes a line of a report.
-#[tactic(auto, using(crate::proofs::Pieces::some_bytes))]
-pub(crate) fn put_line<K: Sink>(line: &ReportLine, sink: &mut K) -> Result<(), Stop>
-    ensures whole { OnOk result (Appends (K.written sink.old) (K.written sink.new) (spelled line.now)) }
-    ensures cut { IfErr result (λ stop. AppendsPrefix (K.written sink.old) (K.written sink.new) (spelled line.now)) }
-    ensures later { K.faults sink.old ≤ K.faults sink.new }
-    ensures kept { OnOk result (K.faults sink.new ≡ K.faults sink.old) }
-    ensures cause { IfErr result (WriteCause (K.faults sink.old) (K.faults sink.new)) }
-{
-    let mut text = ArrayVec::new();
-    write_report_line(line, &mut text);
-    put(sink, &text)
-}
+use ddr_text::{Stop, put};
 
 /// Writes a rest, and the barrier before it, if one is due, where so many requests were written before. How many they
 /// are then.
@@ -142,5 +101,5 @@ fn put_with_feed<K: Sink>(line: &[u8], sink: &mut K) -> Result<(), Stop>
     let mut piece: ArrayVec<u8, 512> = ArrayVec::new();
     let _ = piece.try_extend_from_slice(line);
     piece.push(b'\n');
-    put(sink, &piece)
+    put(&piece, sink)
 }

@@ -4,7 +4,8 @@ use Rattle.ddr_io.specs.Sink.{AppendsPrefix}
 use Rattle.std.specs.Io.KnownBytes.{Appends}
 use Rattle.fair_queue.specs.Merged.{ending}
 use Rattle.fair_queue.proofs.Ending.{cut-end, merges-end, reads-end}
-use Rattle.fair_queue.proofs.Pieces.{if_err, if_err-to, on_ok, on_ok-to}
+use Rattle.ddr_text.proofs.Prefixes.{if_err, if_err-to, on_ok-to}
+use Rattle.fair_queue.proofs.Pieces.{on_ok}
 use Rattle.fair_queue.proofs.Rounding.{cut-here, cut-next, ends-filled, ends-first, fewer-left, merging-filled, merging-first, merging-next, settled-filled, settled-first, settled-next}
 use Rattle.fair_queue.proofs.admitting.merge_lines.Goals as goal
 

@@ -3,7 +3,7 @@ use Rattle.ddr_io.specs.Line.{next_bytes}
 use Rattle.fair_queue.specs.Merging.{BeginsToMerge, Merges}
 use Rattle.fair_queue.specs.Reading.{Place}
 use Rattle.fair_queue.proofs.Opened.{job-cut, job-merges, nothing-cut, opening-cut}
-use Rattle.fair_queue.proofs.Pieces.{if_err, if_err-to, on_ok-to}
+use Rattle.ddr_text.proofs.Prefixes.{if_err, if_err-to, on_ok-to}
 use Rattle.fair_queue.proofs.merging.merge_job.Goals as goal
 
 pub returns-in_err-queues-clause-cut : goal.returns-in_err-queues-clause-cut

@@ -4,7 +4,8 @@ use Rattle.std.specs.List.{flat_map}
 use Rattle.std.specs.Io.KnownBytes.{Appends}
 use Rattle.ddr_text.specs.Opening.{with_feed}
 use Rattle.fair_queue.specs.Merged.{barriers, barrier, is_due, is_request}
-use Rattle.fair_queue.proofs.Pieces.{cut-rest, if_err}
+use Rattle.ddr_text.proofs.Prefixes.{if_err}
+use Rattle.fair_queue.proofs.Pieces.{cut-rest}
 use Rattle.fair_queue.proofs.writing.put_rest.Goals as goal
 
 pub returns-in_err-put_with_feed-clause-cut : goal.returns-in_err-put_with_feed-clause-cut
