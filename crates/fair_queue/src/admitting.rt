@@ -8,9 +8,9 @@ ghost use Rattle.ddr_text.specs.Stop.{ReadCause};
 
 use crate::port_lines::{Ahead, PortLines};
 use crate::queues::Queues;
-use ddr_text::Stop;
 use crate::writing::{put_ending, put_rest};
 use ddr_io::{Sink, Source};
+use ddr_text::Stop;
 
 /// Merges the lines, where none was read and no rest is queued: each rest is written as it is admitted.
 pub(crate) fn merge_lines<S: Source, K: Sink>(

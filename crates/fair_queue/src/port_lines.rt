@@ -6,8 +6,8 @@ ghost use Rattle.fair_queue.specs.Reading.{IsSame, IsKnown, EndsAt, IsFramed, Fr
 ghost use Rattle.ddr_text.specs.Stop.{ReadCause};
 
 use crate::rest::Rest;
-use ddr_text::Stop;
 use ddr_io::{Line, LineReader, Source};
+use ddr_text::Stop;
 use std::marker::Model;
 
 // A merge reads at most so many lines.
