@@ -61,6 +61,18 @@ fn long_job(alloc: Global) -> Result<String, Fail> {
     Ok(job)
 }
 
+// The job with its trace lines as those of four ports in turn.
+fn ports_of(alloc: Global, job: &str) -> Result<String, Fail> {
+    let mut lines = String::from_str(alloc, OPENING)?;
+    let (_, trace) = job.split_once("---\n").unwrap_or(("", ""));
+    for (number, line) in trace.lines().enumerate() {
+        let port = number % 4;
+        let more = format!(in alloc; "{port} {line}\n")?;
+        lines.push_str(&more)?;
+    }
+    Ok(lines)
+}
+
 fn report_of(alloc: Global, job: &[u8]) -> Result<Vec<u8>, Fail> {
     let (_, report) = run_with(alloc, &["replay"], job, (0, 0))?;
     Ok(report.bytes().to_vec(alloc)?)
@@ -132,12 +144,12 @@ fn a_job_is_cut_in_its_trace(rt: HostRuntime) -> Result<(), Fail> {
 fn fails_at_each_read(
     rt: &impl Abort,
     alloc: Global,
-    word: &str,
+    words: &[&str],
     input: &[u8],
 ) -> Result<(), Fail> {
-    let (status, whole) = run_with(alloc, &[word], input, (0, 0))?;
+    let (status, whole) = run_with(alloc, words, input, (0, 0))?;
     for read in 1..2000 {
-        let (answer, begun) = run_with(alloc, &[word], input, (read, 0))?;
+        let (answer, begun) = run_with(alloc, words, input, (read, 0))?;
         let lines = begun.bytes();
         if answer != Status::ReadFault {
             assert_eq!(rt; answer, status);
@@ -147,7 +159,7 @@ fn fails_at_each_read(
         }
         assert!(rt; whole.bytes().starts_with(lines));
         assert!(rt; lines.is_empty() || lines.ends_with(b"\n"));
-        assert!(rt; word != "replay" || !has_line(lines, b'E'));
+        assert!(rt; words != ["replay"].as_slice() || !has_line(lines, b'E'));
     }
     assert!(rt; false, "more reads than bytes");
     Ok(())
@@ -156,10 +168,10 @@ fn fails_at_each_read(
 #[test]
 fn each_read_of_a_small_job_fails(rt: HostRuntime) -> Result<(), Fail> {
     let job = small_job(rt.alloc())?;
-    fails_at_each_read(&rt, rt.alloc(), "replay", job.as_bytes())?;
+    fails_at_each_read(&rt, rt.alloc(), &["replay"], job.as_bytes())?;
     let report = report_of(rt.alloc(), job.as_bytes())?;
     for word in ["audit", "show", "upgrade"] {
-        fails_at_each_read(&rt, rt.alloc(), word, &report)?;
+        fails_at_each_read(&rt, rt.alloc(), &[word], &report)?;
     }
     Ok(())
 }
@@ -167,10 +179,21 @@ fn each_read_of_a_small_job_fails(rt: HostRuntime) -> Result<(), Fail> {
 #[test]
 fn each_read_of_a_long_job_fails(rt: HostRuntime) -> Result<(), Fail> {
     let job = long_job(rt.alloc())?;
-    fails_at_each_read(&rt, rt.alloc(), "replay", job.as_bytes())?;
+    fails_at_each_read(&rt, rt.alloc(), &["replay"], job.as_bytes())?;
     let report = report_of(rt.alloc(), job.as_bytes())?;
     for word in ["audit", "show", "upgrade"] {
-        fails_at_each_read(&rt, rt.alloc(), word, &report)?;
+        fails_at_each_read(&rt, rt.alloc(), &[word], &report)?;
+    }
+    Ok(())
+}
+
+#[test]
+fn each_read_of_four_ports_fails(rt: HostRuntime) -> Result<(), Fail> {
+    for job in [small_job(rt.alloc())?, long_job(rt.alloc())?] {
+        let lines = ports_of(rt.alloc(), &job)?;
+        for word in ["merge", "ports"] {
+            fails_at_each_read(&rt, rt.alloc(), &[word, "2"], lines.as_bytes())?;
+        }
     }
     Ok(())
 }
@@ -219,6 +242,17 @@ fn each_write_of_a_long_job_fails(rt: HostRuntime) -> Result<(), Fail> {
     let report = report_of(rt.alloc(), job.as_bytes())?;
     for word in ["audit", "show", "upgrade"] {
         fails_at_each_write(&rt, rt.alloc(), &[word], &report)?;
+    }
+    Ok(())
+}
+
+#[test]
+fn each_write_of_four_ports_fails(rt: HostRuntime) -> Result<(), Fail> {
+    for job in [small_job(rt.alloc())?, long_job(rt.alloc())?] {
+        let lines = ports_of(rt.alloc(), &job)?;
+        for word in ["merge", "ports"] {
+            fails_at_each_write(&rt, rt.alloc(), &[word, "2"], lines.as_bytes())?;
+        }
     }
     Ok(())
 }

@@ -58,6 +58,70 @@ fn ports_are_merged_and_served(rt: HostRuntime) -> Result<(), Fail> {
     Ok(())
 }
 
+// A line of the answers, with the number of the read and its line of memory, which nobody wrote.
+fn answer_of(alloc: Global, number: u32, line: u32) -> Result<String, Fail> {
+    let mut text = format!(in alloc; "D {number} {line} ")?;
+    for _ in 0..64 {
+        text.push_str("00")?;
+    }
+    text.push_str(" ok\n")?;
+    Ok(text)
+}
+
+#[test]
+fn answers_have_the_numbers_of_the_merged_job(rt: HostRuntime) -> Result<(), Fail> {
+    let alloc = rt.alloc();
+    let (lines, _, _) = ROWS[0];
+    let input = format!(in alloc; "{OPENING}{lines}")?;
+    let (_, report) = run_with(alloc, &["ports", "2"], &input, 0)?;
+    let mut answers = String::new(alloc);
+    for line in report.bytes().split_inclusive(|byte| *byte == b'\n') {
+        if line.starts_with(b"D ") {
+            answers.push_str(str::from_utf8(line).unwrap_or("?"))?;
+        }
+    }
+    let mut wanted = String::new(alloc);
+    for (number, line) in [(1, 0), (2, 1), (4, 2048), (5, 0)] {
+        wanted.push_str(&answer_of(alloc, number, line)?)?;
+    }
+    assert_eq!(rt; answers, wanted);
+    Ok(())
+}
+
+// The lines of a made job as those of ports that the seed draws.
+fn drawn_ports(alloc: Global, seed: u32) -> Result<String, Fail> {
+    let words = format!(in alloc; "{seed}")?;
+    let (_, made) = run_with(alloc, &["gen", &words, "40"], "", 0)?;
+    let job = str::from_utf8(made.bytes()).unwrap_or("");
+    let (header, trace) = job.split_once("---\n").unwrap_or(("", ""));
+    let mut lines = format!(in alloc; "{header}---\n")?;
+    let mut state = seed;
+    for line in trace.lines() {
+        state = state.wrapping_mul(1664525).wrapping_add(1013904223);
+        let port = (state >> 24) % 4;
+        let more = format!(in alloc; "{port} {line}\n")?;
+        lines.push_str(&more)?;
+    }
+    Ok(lines)
+}
+
+#[test]
+fn ports_are_a_replay_of_what_is_merged(rt: HostRuntime) -> Result<(), Fail> {
+    let alloc = rt.alloc();
+    for seed in 1..7 {
+        let lines = drawn_ports(alloc, seed)?;
+        for cap in ["1", "3", "32"] {
+            let (_, job) = run_with(alloc, &["merge", cap], &lines, 0)?;
+            let merged = str::from_utf8(job.bytes()).unwrap_or("");
+            let (wanted, replayed) = run_with(alloc, &["replay"], merged, 0)?;
+            let (status, report) = run_with(alloc, &["ports", cap], &lines, 0)?;
+            assert_eq!(rt; status, wanted);
+            assert_eq!(rt; report.bytes(), replayed.bytes());
+        }
+    }
+    Ok(())
+}
+
 #[test]
 fn a_bad_line_has_its_number_in_the_merged_job(rt: HostRuntime) -> Result<(), Fail> {
     let alloc = rt.alloc();
