@@ -27,7 +27,7 @@ use Rattle.device_core.specs.Rows.{StandsFor as RowsFor, MayIssue}
 use Rattle.device_core.specs.Steps.{Step, Issues, Flips, log_of}
 use Rattle.device_core.specs.Store.{StandsFor as StoreFor, IsUnchanged as StoreUnchanged}
 use Rattle.device_core.specs.Stored.{also, answer, change_of, changes_of, visits, words_after}
-use Rattle.device_core.specs.Standing.{StandsFor, StandsForSome, IsGiven, AllGiven, IsBit, MayStep, MayFlip, IsUnchanged, with_command}
+use Rattle.device_core.specs.Standing.{StandsFor, StandsForSome, IsGiven, AllGiven, IsBit, MayStep, IsUnchanged, geometry_of, with_command}
 use Rattle.device_core.specs.declared.activations.Activations.{Activations}
 use Rattle.device_core.specs.Held.{Held}
 use Rattle.device_core.specs.declared.store.Store.{Store}
@@ -151,21 +151,12 @@ row_inside rows bank column row h log low s is = record {
 
 -- ---- A turned bit
 
-flips_inside : (device : Held) (h : Header) (steps : List Step) (place : Place) (at bit : ℕ) → StandsFor device h steps → IsBit h place at bit → IsInside place (cells_shape device.store.cells)
+-- a bit of the geometry is one of the list's
+pub bit_inside : (registers : List (Option ℕ)) (activations : Activations) (store : Store) (h : Header) (steps : List Step) (place : Place) (at bit : ℕ)
+    → StandsFor (record { registers = registers; activations = activations; store = store }) h steps
+    → IsInside place (cells_shape store.cells) → at < 4 → bit < 136 → IsBit h place at bit
 unfolding StandsFor StoreFor
-flips_inside device h steps place at bit s can = subst (IsInside place) (sym s.store.shape) can.inside
-
-pub flip_inside : (device : Held) (place : Place) (at bit : ℕ) → MayFlip device place at bit → IsInside place (cells_shape device.store.cells)
-flip_inside device place at bit may = record {
-  row = ∥∥₁_elim may le_prop (λ p. (flips_inside device p.0 p.1 place at bit p.2 p.3).row);
-  group = ∥∥₁_elim may le_prop (λ p. (flips_inside device p.0 p.1 place at bit p.2 p.3).group);
-}
-
-pub flip_device : (device : Held) (place : Place) (at bit : ℕ) → MayFlip device place at bit → at < 4
-flip_device device place at bit may = ∥∥₁_elim may le_prop (λ p. p.3.of_four)
-
-pub flip_bit : (device : Held) (place : Place) (at bit : ℕ) → MayFlip device place at bit → bit < 136
-flip_bit device place at bit may = ∥∥₁_elim may le_prop (λ p. p.3.in_word)
+bit_inside registers activations store h steps place at bit s inside four word = record { inside = subst (IsInside place) s.store.shape inside; of_four = four; in_word = word }
 
 -- ---- Words
 
@@ -227,6 +218,10 @@ pub list_given : (device : Held) (h : Header) (steps : List Step) → StandsFor 
 unfolding StandsFor
 list_given device h steps s = s.given
 
+pub list_geometry : (device : Held) (h : Header) (steps : List Step) → StandsFor device h steps → geometry_of device ≡ shape_of h
+unfolding StandsFor StoreFor geometry_of
+list_geometry device h steps s = s.store.shape
+
 -- ---- A list of the device, once it changed
 
 abbrev pub StaysLaw : Type 0
@@ -245,22 +240,27 @@ stays_some law registers activations old new same some =
           p.0 p.1 (record { registers = refl; activations = refl; store = same }) p.2,
     ))
 
--- a turned bit makes the list longer, and want of memory leaves it
-pub flip_some : {T E : Type 0} (r : Result T E) (law : StaysLaw) (registers : List (Option ℕ)) (activations : Activations) (old new : Store) (place : Place) (at bit : ℕ)
+-- a turned bit makes the list longer
+pub flipped : {T E : Type 0} (r : Result T E) (registers : List (Option ℕ)) (activations : Activations) (old new : Store) (place : Place) (at bit : ℕ)
     → OnOk r ((g : Shape) (changes : List Change) (seen : List Visit) → StoreFor old g changes seen → StoreFor new g (turns (line_of place g) at bit ∷ changes) seen)
-    → OnErr r (StoreUnchanged old new)
-    → MayFlip (record { registers = registers; activations = activations; store = old }) place at bit
-    → StandsForSome (record { registers = registers; activations = activations; store = new })
+    → IsInside place (cells_shape old.cells) → at < 4 → bit < 136
+    → OnOk r ((h : Header) (steps : List Step) → StandsFor (record { registers = registers; activations = activations; store = old }) h steps
+    → StandsFor (record { registers = registers; activations = activations; store = new }) h (Flips place at bit ∷ steps))
 unfolding StandsFor
-flip_some (Ok x) law registers activations old new place at bit turned same may =
-    ∥∥₁_map may (λ p. (
-      p.0,
-      Flips place at bit ∷ p.1,
-      record {
-        given = (p.2.given, p.3);
-        registers = p.2.registers;
-        activations = p.2.activations;
-        store = turned (shape_of p.0) (changes_of p.0 p.1) (visits p.0 p.1) p.2.store;
-      },
-    ))
-flip_some (Err e) law registers activations old new place at bit turned same may = stays_some law registers activations old new same (∥∥₁_map may (λ p. (p.0, p.1, p.2)))
+flipped (Ok x) registers activations old new place at bit turned inside four word = λ h steps s. record {
+  given = (s.given, bit_inside registers activations old h steps place at bit s inside four word);
+  registers = s.registers;
+  activations = s.activations;
+  store = turned (shape_of h) (changes_of h steps) (visits h steps) s.store;
+}
+flipped (Err e) registers activations old new place at bit turned inside four word = tt
+
+-- and want of memory leaves it
+pub flip_some : {T E : Type 0} (r : Result T E) (law : StaysLaw) (registers : List (Option ℕ)) (activations : Activations) (old new : Store) (place : Place) (at bit : ℕ)
+    → OnOk r ((h : Header) (steps : List Step) → StandsFor (record { registers = registers; activations = activations; store = old }) h steps
+    → StandsFor (record { registers = registers; activations = activations; store = new }) h (Flips place at bit ∷ steps))
+    → OnErr r (StoreUnchanged old new)
+    → StandsForSome (record { registers = registers; activations = activations; store = old })
+    → StandsForSome (record { registers = registers; activations = activations; store = new })
+flip_some (Ok x) law registers activations old new place at bit longer same some = ∥∥₁_map some (λ p. (p.0, Flips place at bit ∷ p.1, longer p.0 p.1 p.2))
+flip_some (Err e) law registers activations old new place at bit longer same some = stays_some law registers activations old new same some

@@ -1,6 +1,7 @@
 -- What a device says of its list of steps.
 use Rattle.std.specs.Prelude.{ℕ, ◌≡◌, ◌<◌, List, [], ◌∷◌, Option, length, is_some, option_map, ⊤}
 use Rattle.std.specs.Borrow.{Bor}
+use Rattle.command_words.specs.Geometry.{Shape}
 use Rattle.command_words.specs.Place.{IsInside}
 use Rattle.command_words.specs.Words.{Spells}
 use Rattle.command_words.specs.declared.command.Command.{Command}
@@ -8,6 +9,7 @@ use Rattle.command_words.specs.declared.geometry.Place.{Place}
 use Rattle.command_words.specs.declared.words.Words.{Words}
 use Rattle.speed_bin.specs.declared.header.Header.{Header}
 use Rattle.command_words.specs.Kinds.{is_wr}
+use Rattle.error_scrub.specs.Cells.{cells_shape}
 use Rattle.device_core.specs.Legal.{IsLegal}
 use Rattle.device_core.specs.Rows.{StandsFor as RowsFor}
 use Rattle.device_core.specs.Steps.{Step, Issues, Flips, log_of}
@@ -73,9 +75,9 @@ StandsForSome device = ∥ ((h : Header) × (steps : List Step) × StandsFor dev
 abbrev pub MayStep : Held → ℕ → Words → Option (List ℕ) → Type 0
 MayStep device clock words bytes = ∥ ((h : Header) × (steps : List Step) × (command : Command) × (StandsFor device h steps) × MayFollow h clock command words bytes steps) ∥₁
 
--- the device stands for a list, and the bit is one of its header
-abbrev pub MayFlip : Held → Place → ℕ → ℕ → Type 0
-MayFlip device place at bit = ∥ ((h : Header) × (steps : List Step) × (StandsFor device h steps) × IsBit h place at bit) ∥₁
+-- the geometry of the stored lines
+unfoldable pub geometry_of : Held → Shape
+geometry_of device = cells_shape device.store.cells
 
 -- every part of the device stays, and each stored word
 pub record Unchanged (old new : Held) : Type 0 where

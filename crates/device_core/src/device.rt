@@ -1,11 +1,12 @@
 //! The device.
-ghost use Rattle.std.specs.Prelude.{ℕ, suc, ◌≡◌, ◌≤◌, List, [], ◌∷◌, OnErr, OnOk, IfOk, IsTrue, is_some, length};
+ghost use Rattle.std.specs.Prelude.{ℕ, suc, ◌≡◌, ◌<◌, ◌≤◌, List, [], ◌∷◌, OnErr, OnOk, IfOk, IsTrue, is_some, length};
 ghost use Rattle.command_words.specs.Command.{IsInRange};
+ghost use Rattle.command_words.specs.Place.{IsInside};
 ghost use Rattle.command_words.specs.Words.{Spells};
 ghost use Rattle.command_words.specs.declared.command.Command.{Command as AnyCommand};
 ghost use Rattle.speed_bin.specs.Alert.{alert};
 ghost use Rattle.speed_bin.specs.Counts.{peak as peak_of};
-ghost use Rattle.speed_bin.specs.Header.{IsAccepted, bound};
+ghost use Rattle.speed_bin.specs.Header.{IsAccepted, bound, shape_of};
 ghost use Rattle.command_words.specs.Kinds.{is_wr};
 ghost use Rattle.speed_bin.specs.Log.{Log};
 ghost use Rattle.speed_bin.specs.declared.header.Header.{Header as AnyHeader};
@@ -61,15 +62,16 @@ impl Model for Device {
     ghost invariant = { λ d. StandsForSome (record { registers = d.registers; activations = d.activations; store = d.store }) };
 }
 
-#[tactic(auto, unfolding(crate::specs::Standing::StandsFor, crate::specs::Standing::IsUnchanged))]
+#[tactic(auto, unfolding(crate::specs::Standing::StandsFor, crate::specs::Standing::IsUnchanged, crate::specs::Standing::geometry_of))]
 impl Device {
-    ghost use Rattle.device_core.specs.Standing.{StandsFor, MayFollow, MayStep, MayFlip, AllGiven, IsBit, IsUnchanged, StandsForSome, with_command, lent};
+    ghost use Rattle.device_core.specs.Standing.{StandsFor, MayFollow, MayStep, AllGiven, IsUnchanged, StandsForSome, geometry_of, with_command, lent};
 
     /// A device before its first command: no register is written, all banks are closed, and every line is zero. It makes
     /// the counters of all rows.
     pub fn new(alloc: Global, header: &Header) -> Result<Device, OutOfMemory>
         requires { IsAccepted header.now }
-        ensures { IfOk result (λ device. StandsFor device header.now []) }
+        ensures stands { IfOk result (λ device. StandsFor device header.now []) }
+        ensures geometry { IfOk result (λ device. geometry_of device ≡ shape_of header.now) }
     {
         Ok(Device {
             registers: Registers::new(),
@@ -96,6 +98,7 @@ impl Device {
         ensures alert { IfOk result (λ reply. (h : AnyHeader) (steps : List Step) (command : AnyCommand) → StandsFor self.old h steps
             → MayFollow h clock command words (lent bytes.entry) steps
             → reply.alert ≡ is_some (alert h (log_of (with_command clock command (lent bytes.entry) steps)))) }
+        ensures geometry { geometry_of self.new ≡ geometry_of self.old }
         ensures err { OnErr result (IsUnchanged self.old self.new) }
         ensures only_writes { OnErr result ((command : AnyCommand) → IsInRange command → Spells command words → IsTrue (is_wr command)) }
     {
@@ -112,12 +115,15 @@ impl Device {
         })
     }
 
-    /// Turns one bit of one device's codeword. The device is below 4, the bit below 136. Where there is no memory, the
-    /// device is as it was.
+    /// Turns one bit of one device's codeword. The place is inside the geometry, the device below 4, the bit below 136.
+    /// Where there is no memory, the device is as it was.
     pub fn flip(&mut self, place: Place, device: u8, bit: u8) -> Result<(), OutOfMemory>
-        requires { MayFlip self.old place device bit }
-        ensures stands { OnOk result ((h : AnyHeader) (steps : List Step) → StandsFor self.old h steps → IsBit h place device bit
+        requires place { IsInside place (geometry_of self.old) }
+        requires device { device < 4 }
+        requires bit { bit < 136 }
+        ensures stands { OnOk result ((h : AnyHeader) (steps : List Step) → StandsFor self.old h steps
             → StandsFor self.new h (Flips place device bit ∷ steps)) }
+        ensures geometry { geometry_of self.new ≡ geometry_of self.old }
         ensures err { OnErr result (IsUnchanged self.old self.new) }
     {
         Device::unchanged_stands();
@@ -149,10 +155,11 @@ impl Device {
         laws::cells_stand();
     }
 
-    /// A law: the header is accepted, each command of the list was legal in its place, and each step had its bytes or
-    /// turned a bit that there is.
+    /// A law: the header is accepted and has the device's geometry, each command of the list was legal in its place, and
+    /// each step had its bytes or turned a bit that there is.
     pub fn list_is_legal()
         ensures accepted { (device : Held) (h : AnyHeader) (steps : List Step) → StandsFor device h steps → IsAccepted h }
+        ensures geometry { (device : Held) (h : AnyHeader) (steps : List Step) → StandsFor device h steps → geometry_of device ≡ shape_of h }
         ensures legal { (device : Held) (h : AnyHeader) (steps : List Step) → StandsFor device h steps → AllLegal h (log_of steps) }
         ensures given { (device : Held) (h : AnyHeader) (steps : List Step) → StandsFor device h steps → AllGiven h steps }
     {}

@@ -61,6 +61,7 @@ impl Store {
         requires bit { bit < 136 }
         ensures ok { OnOk result ((g : Shape) (changes : List Change) (visits : List Visit) → StandsFor self.old g changes visits
             → StandsFor self.new g (turns (line_of place g) device bit ∷ changes) visits) }
+        ensures shape { cells_shape self.new.cells ≡ cells_shape self.old.cells }
         ensures err { OnErr result (IsUnchanged self.old self.new) }
     {
         laws::cells_stand();

@@ -310,6 +310,7 @@ fn turn(device: &mut Device, of: u8, bit: u8) -> Result<(), OutOfMemory>
     ensures { IfOk result (λ _. (h : AnyHeader) (steps : List Step) → StandsFor device.old h steps
         → IsBit h first_place of bit → StandsFor device.new h (Flips first_place of bit ∷ steps)) }
 {
+    Device::list_is_legal();
     device.flip(first_place(), of, bit)
 }
 

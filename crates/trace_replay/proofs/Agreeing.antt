@@ -1,6 +1,7 @@
 -- One list at both ends: its logs are the same, a turn leaves it as it was, and what is pending may be given.
 use Rattle.std.proofs.Common.{◌++◌, Result, Ok, Err, IfOk, OnOk, OnErr, ◌*◌, true, nat_lt, lt-ltb, eqb-true, IsSome, ◌≡◌, ◌∙◌, ◌<◌, ◌^◌, ℕ, Bool, false, Option, Some, None, is_some, option_map, option_copied, List, [], ◌∷◌, max, IsTrue, refl, sym, ap, subst, arith}
-use Rattle.std.proofs.Math.Logic.{∥∥₁_map}
+use Rattle.std.proofs.Math.Bridge.{le_prop}
+use Rattle.std.proofs.Math.Logic.{∥∥₁_elim, ∥∥₁_map}
 use Rattle.requests.proofs.Oldest.{holds}
 use Rattle.speed_bin.proofs.Tests.{both, joined}
 use Rattle.std.proofs.lemmas.Bool.Decides.{nat_tests}
@@ -24,8 +25,11 @@ use Rattle.scheduler.specs.Controller.{number_of, StandsFor as ControllerFor, Af
 use Rattle.scheduler.specs.declared.state.State.{State as Controller}
 use Rattle.scheduler.specs.declared.turn.Turn.{Turn}
 use Rattle.scheduler.specs.declared.turn.Turn.TheVariants.{Issue, Idle, Done}
+use Rattle.command_words.specs.Geometry.{Shape}
+use Rattle.command_words.specs.Place.{IsInside}
 use Rattle.command_words.specs.declared.geometry.Place.{Place}
-use Rattle.device_core.specs.Standing.{StandsFor as DeviceFor, MayFollow, IsBit, IsUnchanged}
+use Rattle.speed_bin.specs.Header.{shape_of}
+use Rattle.device_core.specs.Standing.{StandsFor as DeviceFor, MayFollow, IsUnchanged, geometry_of}
 use Rattle.device_core.specs.Steps.{Step as DeviceStep, Flips as Turns, log_of as device_log}
 use Rattle.device_core.specs.Held.{Held as DeviceHeld}
 use Rattle.trace_replay.specs.Coupled.{Step, Delivers, Flips, log_of, controller_steps, device_steps, with_pending, issued_as, issued_in, step_of, IsDue, IsDueIfAny, IsAwaited, delivered, Keeps, StandsFor, StandsForSome, After, controller_of, pending_of}
@@ -242,37 +246,43 @@ same_device law c device same some =
 abbrev pub HeldLaw : Type 0
 HeldLaw = (h : Header) (c : Controller) (offered : List Request) (idle : ℕ) (log : List NumberedStep) → ControllerFor h c offered idle log → controller_header c ≡ h
 
--- so a bit of the header that it holds is one of the list's
-pub bit_of : (law : HeldLaw) (c : Coupled) (h : Header) (offered : List Request) (idle : ℕ) (steps : List Step) (place : Place) (at bit : ℕ)
-    → Keeps c h offered idle steps → IsBit (controller_header c.controller) place at bit → IsBit h place at bit
-bit_of law c h offered idle steps place at bit s is =
-    subst (λ (x : Header). IsBit x place at bit) (law h c.controller offered idle (with_pending (option_map step_of c.pending) (controller_steps steps)) s.controller) is
+-- and it is of the geometry of the device
+abbrev pub GeometryLaw : Type 0
+GeometryLaw = (device : DeviceHeld) (h : Header) (steps : List DeviceStep) → DeviceFor device h steps → geometry_of device ≡ shape_of h
 
--- a turned bit makes the list longer, and want of memory leaves it
-pub flipped_some : {T E : Type 0} (r : Result T E) (stays : StaysLaw) (held : HeldLaw) (c : Coupled) (device : DeviceHeld) (place : Place) (at bit : ℕ)
-    → OnOk r ((h : Header) (steps : List DeviceStep) → DeviceFor c.device h steps → IsBit h place at bit → DeviceFor device h (Turns place at bit ∷ steps))
-    → OnErr r (IsUnchanged c.device device) → IsBit (controller_header c.controller) place at bit → StandsForSome c
-    → StandsForSome (record { controller = c.controller; device = device; pending = c.pending; alert = c.alert })
+one_geometry : (held : HeldLaw) (geometry : GeometryLaw) (c : Coupled) (h : Header) (offered : List Request) (idle : ℕ) (steps : List Step) (place : Place)
+    → Keeps c h offered idle steps → IsInside place (shape_of (controller_header c.controller)) → IsInside place (geometry_of c.device)
+one_geometry held geometry c h offered idle steps place s inside =
+    let same = ap (λ (x : Header). shape_of x) (held h c.controller offered idle (with_pending (option_map step_of c.pending) (controller_steps steps)) s.controller) in
+    subst (λ (g : Shape). IsInside place g) (same ∙ sym (geometry c.device h (device_steps steps) s.device)) inside
+
+-- so a place of the header that the controller holds is one of the device
+pub place_of_device : (held : HeldLaw) (geometry : GeometryLaw) (c : Coupled) (place : Place) → IsInside place (shape_of (controller_header c.controller)) → StandsForSome c
+    → IsInside place (geometry_of c.device)
 unfolding StandsFor
-flipped_some (Ok x) stays held c device place at bit turned same is some =
-    ∥∥₁_map some (λ m. (
-      m.0,
-      m.1,
-      m.2,
-      Flips place at bit ∷ m.3,
-      with_bit c device m.0 m.1 m.2 m.3 place at bit m.4 (turned m.0 (device_steps m.3) m.4.device (bit_of held c m.0 m.1 m.2 m.3 place at bit m.4 is)),
-    ))
-flipped_some (Err e) stays held c device place at bit turned same is some = same_device stays c device same some
+place_of_device held geometry c place inside some = record {
+  row = ∥∥₁_elim some le_prop (λ m. (one_geometry held geometry c m.0 m.1 m.2 m.3 place m.4 inside).row);
+  group = ∥∥₁_elim some le_prop (λ m. (one_geometry held geometry c m.0 m.1 m.2 m.3 place m.4 inside).group);
+}
 
-pub flipped : {T E : Type 0} (r : Result T E) (held : HeldLaw) (c : Coupled) (device : DeviceHeld) (place : Place) (at bit : ℕ)
-    → OnOk r ((h : Header) (steps : List DeviceStep) → DeviceFor c.device h steps → IsBit h place at bit → DeviceFor device h (Turns place at bit ∷ steps))
-    → IsBit (controller_header c.controller) place at bit
+-- a turned bit makes the list longer
+pub flipped : {T E : Type 0} (r : Result T E) (c : Coupled) (device : DeviceHeld) (place : Place) (at bit : ℕ)
+    → OnOk r ((h : Header) (steps : List DeviceStep) → DeviceFor c.device h steps → DeviceFor device h (Turns place at bit ∷ steps))
     → OnOk r ((h : Header) (offered : List Request) (idle : ℕ) (steps : List Step) → StandsFor c h offered idle steps
     → StandsFor (record { controller = c.controller; device = device; pending = c.pending; alert = c.alert }) h offered idle (Flips place at bit ∷ steps))
 unfolding StandsFor
-flipped (Ok x) held c device place at bit turned is = λ h offered idle steps s.
-    with_bit c device h offered idle steps place at bit s (turned h (device_steps steps) s.device (bit_of held c h offered idle steps place at bit s is))
-flipped (Err e) held c device place at bit turned is = tt
+flipped (Ok x) c device place at bit turned = λ h offered idle steps s. with_bit c device h offered idle steps place at bit s (turned h (device_steps steps) s.device)
+flipped (Err e) c device place at bit turned = tt
+
+-- and want of memory leaves it
+pub flipped_some : {T E : Type 0} (r : Result T E) (stays : StaysLaw) (c : Coupled) (device : DeviceHeld) (place : Place) (at bit : ℕ)
+    → OnOk r ((h : Header) (steps : List DeviceStep) → DeviceFor c.device h steps → DeviceFor device h (Turns place at bit ∷ steps))
+    → OnErr r (IsUnchanged c.device device) → StandsForSome c
+    → StandsForSome (record { controller = c.controller; device = device; pending = c.pending; alert = c.alert })
+unfolding StandsFor
+flipped_some (Ok x) stays c device place at bit turned same some =
+    ∥∥₁_map some (λ m. (m.0, m.1, m.2, Flips place at bit ∷ m.3, with_bit c device m.0 m.1 m.2 m.3 place at bit m.4 (turned m.0 (device_steps m.3) m.4.device)))
+flipped_some (Err e) stays c device place at bit turned same some = same_device stays c device same some
 
 -- where memory is wanting, every list that was stood for is stood for still
 pub unchanged : {T E : Type 0} (r : Result T E) (stays : StaysLaw) (c : Coupled) (device : DeviceHeld) → OnErr r (IsUnchanged c.device device)

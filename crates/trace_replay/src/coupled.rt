@@ -198,6 +198,7 @@ impl Coupled {
         ensures finished { finished_of self.new ≡ finished_of self.old }
     {
         Device::unchanged_stands();
+        Device::list_is_legal();
         scheduler::laws::held();
         self.ends.device.flip(place, device, bit)
     }

@@ -7,10 +7,12 @@ use Rattle.speed_bin.specs.Alert.{alert}
 use Rattle.std.specs.Option.{is_some}
 use Rattle.device_core.specs.Held.{Held}
 use Rattle.device_core.specs.Rows.{StandsFor as RowsFor}
-use Rattle.device_core.specs.Standing.{StandsFor, MayStep, IsGiven, lent, with_command}
+use Rattle.error_scrub.specs.Cells.{cells_shape}
+use Rattle.device_core.specs.Store.{StandsFor as StoreFor}
+use Rattle.device_core.specs.Standing.{StandsFor, geometry_of, MayStep, IsGiven, lent, with_command}
 use Rattle.device_core.specs.Steps.{Step, log_of}
 use Rattle.device_core.specs.Stored.{answer}
-use Rattle.device_core.proofs.StepLemmas.{decodes, may_access, may_issue, named, stays_some}
+use Rattle.device_core.proofs.StepLemmas.{decodes, may_access, may_issue, named, shape_by_some, stays_some}
 use Rattle.device_core.proofs.ToldLemmas.{settings_told}
 use Rattle.device_core.proofs.device.Device.step.Goals as goal
 
@@ -63,6 +65,19 @@ returns-clause-alert c = λ h steps command s may.
     let stands = longer c h steps s (subst (λ (x : Command). IsGiven h c.args.clock x (lent c.args.bytes) steps) same may.given) in
     subst (λ (x : Command). c.is_raised.result ≡ is_some (alert h (record { clock = c.args.clock; command = x } ∷ log_of steps))) (sym same)
     (c.is_raised.ensures h (record { clock = c.args.clock; command = c.unwrap-command.result } ∷ log_of steps) stands.activations)
+
+pub returns-in_err-line-clause-geometry : goal.returns-in_err-line-clause-geometry
+unfolding geometry_of
+returns-in_err-line-clause-geometry c = rw (← c.self.view_is) c.in_err-line.ensures.err.cells.shape
+
+pub returns-clause-geometry : goal.returns-clause-geometry
+unfolding geometry_of StandsFor StoreFor
+returns-clause-geometry c =
+    shape_by_some (cells_shape c.access.new.store.cells) (cells_shape c.args.self.now.store.cells)
+    (∥∥₁_map c.requires (λ p.
+    let same = named c.decode.result p.2 c.unwrap-command.result c.args.words c.decode.ensures.only c.unwrap-command.ensures p.4.given.legal.in_range p.4.spelled in
+    let after = longer c p.0 p.1 p.3 (subst (λ (x : Command). IsGiven p.0 c.args.clock x (lent c.args.bytes) p.1) same p.4.given) in
+    after.store.shape ∙ sym p.3.store.shape))
 
 pub invariant_of-self : goal.invariant_of-self
 invariant_of-self c = stays_some c.unchanged_stands.ensures c.self.inside.registers c.self.inside.activations c.self.inside.store c.access.new.store c.in_err-line.ensures.err c.self.invariant

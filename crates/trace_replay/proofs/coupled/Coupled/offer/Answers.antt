@@ -2,7 +2,7 @@ use Rattle.std.proofs.Common.{◌<◌, ◌≡◌, false, sym, subst}
 use Rattle.command_words.specs.Geometry.{lines_of}
 use Rattle.speed_bin.specs.Header.{shape_of}
 use Rattle.scheduler.specs.Controller.{header_of as controller_header, finished_of as controller_finished}
-use Rattle.trace_replay.specs.Coupled.{StandsFor, controller_of, controller_steps, pending_of, with_pending}
+use Rattle.trace_replay.specs.Coupled.{controller_of}
 use Rattle.trace_replay.specs.declared.ends.Ends.{Ends}
 use Rattle.trace_replay.proofs.Agreeing.{offered_some}
 use Rattle.trace_replay.proofs.coupled.Coupled.offer.Goals as goal
