@@ -33,18 +33,10 @@ use Rattle.audited_reports.specs.Audited.{IsAuditedOk, IsTold, IsWithinLimits, S
 use Rattle.audited_reports.proofs.Ranges.{AreBody, report-body}
 use Rattle.audited_reports.proofs.Read.{reads-back}
 use Rattle.ddr_text.proofs.Reopened.{reopens}
+use Rattle.ddr_text.proofs.Places.{places_of-append}
 use Rattle.audited_reports.proofs.Whole.{whole-stands}
 
 -- ---- The log and the end of a report
-
-places-append : (a b : List ReportLine) → places_of (a ++ b) ≡ places_of a ++ places_of b
-places-append [] b = refl
-places-append (Issued clock command ∷ a) b = ap (λ l. record { clock = clock; command = command } ∷ l) (places-append a b)
-places-append (Value number line bytes state ∷ a) b = places-append a b
-places-append (Flip clock line device bit ∷ a) b = places-append a b
-places-append (Stat name number ∷ a) b = places-append a b
-places-append (End clock ∷ a) b = places-append a b
-places-append (Refused line reason ∷ a) b = places-append a b
 
 no-place : (log : LogCounts) (scrub : ScrubCounts) (clock : ℕ) (refusal : Option Refusal) → places_of (stat_lines log scrub ++ End clock ∷ refusal_lines refusal) ≡ []
 unfolding stat_lines
@@ -71,7 +63,7 @@ whole-log : (h : Header) (trace : List TraceLine) (run : Run) (clock : ℕ) (ref
 whole-log h trace run clock refusal =
     let last = End clock ∷ refusal_lines refusal in
     ap (λ l. reverse (places_of l)) (append_assoc (report h trace run) (stats h trace run) last)
-    ∙ ap reverse (places-append (report h trace run) (stats h trace run ++ last))
+    ∙ ap reverse (places_of-append (report h trace run) (stats h trace run ++ last))
     ∙ ap (λ l. reverse (places_of (report h trace run) ++ l)) (no-place _ _ clock refusal)
     ∙ ap reverse (append-nil (places_of (report h trace run)))
 

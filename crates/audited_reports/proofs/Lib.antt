@@ -5,5 +5,3 @@ pub mod Ranges
 pub mod Counts
 pub mod Whole
 pub mod Audited
-pub mod Members
-pub mod Accepted

@@ -24,6 +24,7 @@ use Rattle.speed_bin.specs.Log.{last_clock}
 use Rattle.reports.specs.Requests.{Request, is_reading, reads, requests, requests_from}
 use Rattle.reports.specs.Runs.{Step, Issues, Flips, Run, log_of, is_served, ready, held}
 use Rattle.reports.specs.Sound.{Sound}
+use Rattle.reports.proofs.Device.{in-range}
 use Rattle.audited_reports.proofs.Bytes.{reading-bytes}
 
 -- lines within their ranges, which are C, D or F lines
@@ -74,26 +75,6 @@ answers-body g h trace run (r ∷ rs) f =
     ((f.0, f.1, bytes.counted, bytes.small), refl, answers-body g h trace run rs f.2)
 
 -- ---- C lines
-
--- a header has at most 8 bank groups
-few-groups : (g k : ℕ) → IsGroups k → g < k → g < 8
-few-groups g k (inl e) low = omega (arith, e, low)
-few-groups g k (inr e) low = omega (arith, e, low)
-
-in-range : (h : Header) (command : Command) → IsAccepted h → IsCommandOf (shape_of h) command → IsInRange command
-in-range h (Act bank row) a w = (record { group = few-groups bank.group h.version.groups a.version.2 w.0.group; address = w.0.address }, omega (arith, w.1, a.settings.rows.1))
-in-range h (Rd bank column) a w = (record { group = few-groups bank.group h.version.groups a.version.2 w.0.group; address = w.0.address }, w.1)
-in-range h (Wr bank column) a w = (record { group = few-groups bank.group h.version.groups a.version.2 w.0.group; address = w.0.address }, w.1)
-in-range h (PrePb bank) a w = record { group = few-groups bank.group h.version.groups a.version.2 w.group; address = w.address }
-in-range h (PreSb address) a w = w
-in-range h PreAb a w = tt
-in-range h RefAb a w = tt
-in-range h (RefSb address) a w = w
-in-range h RfmAb a w = tt
-in-range h (RfmSb address) a w = w
-in-range h (Mrw write) a w = w
-in-range h Ecs a w = tt
-in-range h Nop a w = tt
 
 row-within : (g : Shape) (command : Command) → IsCommandOf g command → has_place g command ≡ true
 row-within g (Act bank row) w = joined (nat_lt row g.rows) (nat_lt bank.group g.groups) (lt-ltb row g.rows w.1) (lt-ltb bank.group g.groups w.0.group)

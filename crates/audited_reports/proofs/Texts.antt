@@ -25,6 +25,7 @@ use Rattle.ddr_text.specs.declared.lines.ReportLine.TheVariants.{Issued, Value, 
 use Rattle.ddr_text.specs.declared.lines.StatName.{StatName}
 use Rattle.ddr_text.specs.declared.lines.StatName.TheVariants.{Act as ActName, Rd as RdName, Wr as WrName, Pre, RefAb as RefAbName, RefSb as RefSbName, RfmAb as RfmAbName, RfmSb as RfmSbName, Ecs as EcsName, Alert, Peak, Found, Lost, Worst}
 use Rattle.ddr_text.proofs.CleanParts.{HasNoFeed}
+use Rattle.ddr_text.proofs.Parts.{digit-high, two-bytes}
 
 -- no byte is a line feed, and there are at most so many
 pub record Fits (most : ℕ) (text : List ℕ) : Type 0 where
@@ -86,9 +87,6 @@ spaced-fits n h = join 1 20 (codes " ") (decimal n) (record { clean = clean-test
 
 -- ---- Hexadecimal digits
 
-digit-high : (byte : ℕ) → is_hex_digit byte ≡ true → 32 < byte
-digit-high byte h = grind arith
-
 hex-fits : (bytes : List ℕ) (most : ℕ) → IsBytes bytes → 2 * length bytes ≤ most → Fits most (encode_lower bytes)
 hex-fits bytes most h few =
     let digits = (IsOk-decode_sized (encode_lower bytes) (length bytes)).0 (rw (decode_sized-encode_lower bytes (length bytes) refl h) refl) in
@@ -96,11 +94,6 @@ hex-fits bytes most h few =
       clean = clean-from (encode_lower bytes) (λ i l. digit-high (get_or (encode_lower bytes) i 0) (digits.1 i 0 l));
       short = omega (arith, length-encode_with lower_digits bytes, few);
     }
-
-two-bytes : (a b : ℕ) → a < 256 → b < 256 → IsBytes (a ∷ b ∷ [])
-two-bytes a b x y zero = x
-two-bytes a b x y (suc zero) = y
-two-bytes a b x y (suc (suc i)) = omega arith
 
 space-fits : Fits 1 (codes " ")
 space-fits = record { clean = clean-test (codes " ") refl; short = omega arith }

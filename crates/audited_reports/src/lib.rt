@@ -8,16 +8,10 @@ ghost use Rattle.ddr_text.specs.Opening.{Accepts, opening_of};
 ghost use Rattle.ddr_text.specs.Spelling.{spelled};
 ghost use Rattle.ddr_text.specs.declared.lines.TraceLine.{TraceLine};
 ghost use Rattle.log_auditor.specs.Findings.{Answers};
-ghost use Rattle.speed_bin.specs.Header.{IsAccepted};
 ghost use Rattle.speed_bin.specs.declared.header.Header.{Header};
 ghost use Rattle.ddr_text.specs.ReportParts.{Refusal};
 ghost use Rattle.reports.specs.Whole.{IsReportOf};
 ghost use Rattle.audited_reports.specs.Audited.{IsAuditedOk, IsTold, IsWithinLimits, SaysOk};
-
-/// The header that opens a job is accepted: its numbers are within their ranges and the checks hold.
-pub fn opened_header_is_accepted()
-    ensures accepted { (h : Header) (job text rest : List ℕ) → opening_of job ≡ Accepts h text rest → IsAccepted h }
-{}
 
 /// Every finished report of a job is audited Ok: the bytes that a replay writes of a job whose opening is accepted and
 /// whose trace is within its limits are a well-formed report whose log satisfies the rules, with an X line too.
@@ -27,6 +21,7 @@ pub fn finished_report_is_ok()
         → IsReportOf spelled h text trace refusal bytes → IsAuditedOk bytes }
 {
     ddr_text::report_lines();
+    ddr_text::laws::opened_header_is_accepted();
     reports::laws::gives_to_a_device();
     reports::laws::headline();
     reports::laws::stays_below_the_limit();

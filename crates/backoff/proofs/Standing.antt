@@ -7,6 +7,7 @@ use Rattle.command_words.specs.Kinds.{Effect, Opens, Manages, Refreshes, Leaves,
 use Rattle.speed_bin.specs.Log.{Log, open_at}
 use Rattle.speed_bin.specs.Alert.{alert, alert_after, closes, closes_some, is_hot}
 use Rattle.speed_bin.specs.declared.header.Header.{Header}
+use Rattle.speed_bin.proofs.Tests.{any_below_none}
 use Rattle.backoff.specs.Standing.{StandsFor}
 
 pub stands_at_first : (h : Header) → StandsFor None h []
@@ -43,13 +44,6 @@ stands_after_precharge old new clock hot closed low value h command log stands p
 
 -- ---- Other commands
 
-none_below : (n : ℕ) (test : ℕ → Bool) → ((i : ℕ) → test i ≡ false) → any_below n test ≡ false
-unfolding any_below
-none_below zero test none = refl
-none_below (suc n) test none =
-    let here = none n in
-    rw here (none_below n test none)
-
 or_leaves : (t : Bool) (done : Effect) (opened : Option ℕ) → closes done opened ≡ false → closes (cond t done Leaves) opened ≡ false
 or_leaves true done opened is = is
 or_leaves false done opened is = refl
@@ -76,7 +70,7 @@ same None clock = refl
 pub stands_after_other : (it : Option ℕ) (h : Header) (clock : ℕ) (command : Command) (log : Log) → StandsFor it h log → is_precharge command ≡ false → is_rfm_all command ≡ false → StandsFor it h (record { clock = clock; command = command } ∷ log)
 unfolding StandsFor
 stands_after_other it h clock command log stands no_precharge no_rfm_all =
-    let nothing : closes_some command log ≡ false = none_below 32 (λ b. closes (effect b command) (open_at b log)) (λ b. closes_nothing command b (open_at b log) no_precharge) in
+    let nothing : closes_some command log ≡ false = any_below_none 32 (λ b. closes (effect b command) (open_at b log)) (λ b low. closes_nothing command b (open_at b log) no_precharge) in
     record {
       raised = stands.raised ∙ rw (no_rfm_all, nothing) (same (alert h log) clock);
       clocks = (stands.clocks, λ is. absurd cc);

@@ -5,7 +5,7 @@ use Rattle.speed_bin.specs.Log.{Log, open_at}
 use Rattle.speed_bin.specs.Rules.{all_closed}
 use Rattle.bank_state.specs.Rows.{row_of, open_count}
 use Rattle.bank_state.specs.Standing.{Keeps}
-use Rattle.bank_state.proofs.AllBelow.{all_below_at, all_below_from, none_from_test}
+use Rattle.speed_bin.proofs.Tests.{all_below_at, all_below_from, none_from_test}
 
 counted : (row : Option ℕ) (rows : List (Option ℕ)) → open_count (row ∷ rows) ≡ cond (is_some row) 1 0 + open_count rows
 counted row rows = sum_by-cons (λ x. cond (is_some x) 1 0) row rows

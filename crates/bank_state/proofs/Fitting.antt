@@ -13,7 +13,11 @@ use Rattle.bank_state.specs.declared.fault.StateFault.TheVariants.{IsOpen, IsClo
 use Rattle.bank_state.specs.Faults.{fault_of}
 use Rattle.bank_state.specs.Rows.{row_of}
 use Rattle.bank_state.specs.Standing.{Keeps, Fits}
-use Rattle.bank_state.proofs.AllBelow.{both, and_true, joined, all_below_at, all_below_from, when_not, none_from_test}
+use Rattle.speed_bin.proofs.Tests.{both, joined, all_below_at, all_below_from, when_not, none_from_test}
+
+and_true : (x : Bool) → x ≡ (x && true)
+and_true true = refl
+and_true false = refl
 
 -- the banks with one address are closed
 pub closed_at : ℕ → Log → Bool

@@ -1,4 +1,3 @@
-pub mod AllBelow
 pub mod Counting
 pub mod Fitting
 pub mod Steps

@@ -1,27 +1,24 @@
 -- A line of a report has one text, so writing the lines of a well formed report again gives its bytes.
-use Rattle.std.proofs.Common.{codes, ◌≡◌, ◌∙◌, ℕ, suc, Bool, true, false, cond, if◌then◌else◌, nat_lt, List, [], ◌∷◌, ◌++◌, length, take, refl, sym, ap, subst, append_assoc, Result, Ok, Err, Option, None, Some}
+use Rattle.std.proofs.Common.{codes, ◌≡◌, ◌∙◌, ℕ, suc, Bool, true, false, if◌then◌else◌, List, [], ◌∷◌, ◌++◌, length, take, refl, sym, ap, append_assoc, Result, Ok, Err, Option, None, Some}
 use Rattle.std.specs.List.{flat_map, slice_split, join_with_byte}
 use Rattle.std.proofs.lemmas.List.Splits.{join_with_byte-slice_split}
 use Rattle.command_words.specs.Geometry.{Shape}
 use Rattle.ddr_text.specs.AcceptedReport.{ReportLines}
-use Rattle.ddr_text.specs.Opening.{parts_of, is_feed, is_long, with_feed}
+use Rattle.ddr_text.specs.Opening.{parts_of, is_feed, with_feed}
 use Rattle.ddr_text.specs.ReportGrammar.{report_line_of}
 use Rattle.ddr_text.specs.ReportParts.{Refusal}
 use Rattle.ddr_text.specs.Spelling.{report_text, spelled}
 use Rattle.ddr_text.specs.declared.lines.LineFault.{LineFault}
 use Rattle.ddr_text.specs.declared.lines.ReportLine.{ReportLine}
-use Rattle.log_auditor.specs.Reading.{Lines, Placed, in_place, placed, stage_after, judged_line, judged_rest, behind_line, stage_behind, refusal_at, is_whole, lines_in}
+use Rattle.log_auditor.specs.Reading.{Placed, in_place, stage_after, judged_line, judged_rest, behind_line, stage_behind, refusal_at, lines_in}
 use Rattle.log_auditor.specs.declared.report_reader.Stage.{Stage}
+use Rattle.log_auditor.proofs.Parts.{placed_line}
 use Rattle.ddr_text.specs.Outcome.{refusal_text}
 use Rattle.ddr_cli.specs.Behind.{outcome_behind}
 use Rattle.ddr_cli.specs.Upgraded.{kept, kept_of}
 
-placed_same : (line : ReportLine) (o : Option Stage) (found : Placed) → placed line o ≡ Ok found → line ≡ found.line
-placed_same line None found e = absurd cc
-placed_same line (Some stage) found e = let same : record { line = line; stage = stage } ≡ found = cc in ap (λ (p : Placed). p.line) same
-
 in_place_read : (stage : Stage) (read : Result ReportLine LineFault) (found : Placed) → in_place stage read ≡ Ok found → read ≡ Ok found.line
-in_place_read stage (Ok line) found e = ap Ok (placed_same line (stage_after stage line) found e)
+in_place_read stage (Ok line) found e = ap Ok (placed_line line (stage_after stage line) found e)
 in_place_read stage (Err fault) found e = absurd cc
 
 judged_read : (g : Shape) (stage : Stage) (number : ℕ) (text : List ℕ) (found : Placed) → judged_line g stage number text ≡ Ok found → report_line_of g text ≡ Ok found.line

@@ -1,14 +1,12 @@
 -- The bytes of a made job are a job: its header, its requests, and nothing to refuse.
-use Rattle.std.proofs.Common.{◌≡◌, ◌∙◌, ◌≢◌, ℕ, ◌+◌, ◌≤◌, ◌<◌, true, false, Bool, List, [], ◌∷◌, ◌++◌, Some, None, Ok, refl, sym, ap, length, drop, nat_le, arith, append_assoc, append-nil, length-append}
+use Rattle.std.proofs.Common.{◌≡◌, ◌∙◌, ℕ, ◌+◌, ◌≤◌, ◌<◌, false, List, [], ◌∷◌, ◌++◌, Some, None, Ok, refl, sym, ap, length, nat_le, arith, append_assoc, append-nil, length-append}
 use Rattle.std.specs.Prelude.{codes}
-use Rattle.std.specs.List.{All, flat_map, slice_split, onto_first}
-use Rattle.std.proofs.lemmas.Bool.{ne_eqb}
+use Rattle.std.specs.List.{All, flat_map}
 use Rattle.std.proofs.Transfers.{drop-appended}
-use Rattle.std.proofs.lemmas.List.Elements.{All-head, All-tail, All-weaker}
-use Rattle.std.proofs.lemmas.List.Splits.{slice_split_at, slice_split-cons_yes, slice_split-cons_no}
+use Rattle.std.proofs.lemmas.List.Elements.{All-head, All-tail}
 use Rattle.ddr_io.specs.Line.{HasNoFeed}
 use Rattle.ddr_text.specs.Grammar.{fields_of}
-use Rattle.ddr_text.specs.Opening.{Accepts, Heading, is_feed, is_long, parts_of, heading_in, judged, behind, with_feed, with_heading, opening_of}
+use Rattle.ddr_text.specs.Opening.{Accepts, Heading, is_long, parts_of, heading_in, judged, behind, with_feed, with_heading, opening_of}
 use Rattle.ddr_text.specs.Separator.{role_of_line}
 use Rattle.ddr_text.proofs.CleanParts.{first-part, line-part}
 use Rattle.ddr_text.proofs.LineParts.{no_feeds}

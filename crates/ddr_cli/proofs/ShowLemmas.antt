@@ -2,12 +2,9 @@
 use Rattle.std.proofs.Common.{◌≡◌, ◌∙◌, ℕ, Option, Some, None, List, [], refl, ap, subst}
 use Rattle.std.proofs.KnownBytes.{Appends-nil}
 use Rattle.ddr_io.specs.Line.{next_bytes}
-use Rattle.ddr_io.specs.Reading.{Reading as ReaderOfLines}
-use Rattle.ddr_io.specs.declared.line_reader.Line.TheVariants.{Text as TextAnswer}
 use Rattle.ddr_io.specs.declared.status.Status.{Status}
 use Rattle.ddr_io.specs.declared.status.Status.TheVariants as status
 use Rattle.ddr_text.specs.Opening.{IsOpening}
-use Rattle.ddr_text.specs.declared.opening.Opening.{Opening}
 use Rattle.ddr_text.specs.declared.opening.Opening.TheVariants.{Accepted, Refused as RefusedOpening}
 use Rattle.speed_bin.specs.declared.header.Header.{Header}
 use Rattle.speed_bin.specs.Header.{shape_of}

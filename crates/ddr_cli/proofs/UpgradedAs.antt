@@ -1,5 +1,5 @@
 -- What is written of a report in version 2, by how its bytes open.
-use Rattle.std.proofs.Common.{◌≡◌, ◌∙◌, ℕ, List, [], ◌++◌, ap, subst, Result, Ok, Err}
+use Rattle.std.proofs.Common.{◌≡◌, ◌∙◌, ℕ, List, [], ◌++◌, ap, Result, Ok, Err}
 use Rattle.speed_bin.specs.Document.{header_stated}
 use Rattle.speed_bin.specs.Header.{shape_of}
 use Rattle.speed_bin.specs.declared.fault.HeaderFault.{HeaderFault}
@@ -7,9 +7,9 @@ use Rattle.speed_bin.specs.declared.header.Header.{Header}
 use Rattle.ddr_text.specs.AcceptedReport.{ReportLines}
 use Rattle.ddr_text.specs.Opening.{Heading, Accepts, Refuses, heading_in, opening_text, opening_of, with_heading, behind, judged, parts_of, reason_of}
 use Rattle.ddr_text.specs.Spelling.{spelled}
-use Rattle.log_auditor.specs.Reading.{Lines, lines_in}
+use Rattle.log_auditor.specs.Reading.{lines_in}
 use Rattle.log_auditor.specs.declared.report_reader.Stage.TheVariants.{Body}
-use Rattle.ddr_text.specs.Outcome.{Outcome, refusal_status, refused_opening}
+use Rattle.ddr_text.specs.Outcome.{refusal_status, refused_opening}
 use Rattle.ddr_cli.specs.Behind.{outcome_behind}
 use Rattle.ddr_cli.specs.Upgraded.{newer_heading, upgraded, upgraded_from, upgraded_of, upgraded_with}
 use Rattle.ddr_cli.proofs.Copied.{kept-is}

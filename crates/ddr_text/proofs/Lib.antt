@@ -5,7 +5,7 @@ pub mod LineParts
 mod LowerHex
 mod Names
 mod Numerals
-mod Parts
+pub mod Parts
 pub mod ReportLaws
 mod Steps
 pub mod TraceLaws
@@ -19,3 +19,5 @@ mod CheckNumbers
 mod Parted
 pub mod Prefixes
 pub mod Outcomes
+mod OpenedHeaders
+pub mod Places

@@ -42,7 +42,7 @@ unspaced-from text h =
 pub unspaced-decimal : (n : ℕ) → n < 2 ^ 64 → Unspaced (decimal n)
 unspaced-decimal n h = unspaced-from (decimal n) (λ i l. let r = digits_decimal own n h i l in omega arith)
 
-digit-high : (byte : ℕ) → is_hex_digit byte ≡ true → 32 < byte
+pub digit-high : (byte : ℕ) → is_hex_digit byte ≡ true → 32 < byte
 digit-high byte h = grind arith
 
 pub two-bytes : (a b : ℕ) → a < 256 → b < 256 → IsBytes (a ∷ b ∷ [])

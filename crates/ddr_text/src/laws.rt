@@ -2,6 +2,7 @@
 ghost use Rattle.std.specs.Prelude.{◌≡◌, ◌++◌, ℕ, List, Ok};
 ghost use Rattle.hex.specs.Hex.{decode_sized};
 ghost use Rattle.ondie_ecc.specs.Bits.{IsBytes};
+ghost use Rattle.speed_bin.specs.Header.{IsAccepted};
 ghost use Rattle.speed_bin.specs.declared.header.Header.{Header};
 ghost use Rattle.ddr_text.specs.Opening.{Accepts, opening_of};
 ghost use Rattle.ddr_text.specs.Parts.{LinesAreParts};
@@ -18,6 +19,13 @@ pub fn opening_opens_again()
     ensures opens { (h : Header) (job text rest more : List ℕ) → opening_of job ≡ Accepts h text rest
         → opening_of (text ++ more) ≡ Accepts h text more }
 {}
+
+/// The header that opens a job is accepted: its numbers are within their ranges and the checks hold.
+pub fn opened_header_is_accepted()
+    ensures accepted { (h : Header) (job text rest : List ℕ) → opening_of job ≡ Accepts h text rest → IsAccepted h }
+{
+    speed_bin::laws::stated_headers_are_accepted();
+}
 
 /// A field that is read as 64 bytes, in either case or in lower case, gives 64 numbers below 256.
 pub fn hex_gives_bytes()

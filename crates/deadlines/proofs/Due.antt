@@ -6,6 +6,7 @@ use Rattle.std.proofs.Math.Nat.{div-lt_iff_lt-mul}
 use Rattle.speed_bin.specs.Log.{Log, refs}
 use Rattle.speed_bin.specs.declared.header.Header.{Header}
 use Rattle.refresh_plan.specs.Debts.{IsNothingDue, IsMostBehind}
+use Rattle.refresh_plan.proofs.Owing.{below_two, below_back}
 use Rattle.deadlines.specs.Rounds.{Rounds, next_due, ecs_due}
 use Rattle.deadlines.specs.Timely.{IsTurnOf}
 use Rattle.deadlines.specs.Turns.{IsEcsDue, IsNextDue}
@@ -14,12 +15,6 @@ use Rattle.deadlines.proofs.Refreshing.{ecs_true, ecs_from}
 use Rattle.deadlines.proofs.Keeping.{least_refs}
 
 -- ---- Debts
-
-debt_below_two : (passed refreshed : ℕ) → (pos passed -ℤ pos refreshed) <ℤ pos 2 → passed < refreshed + 2
-debt_below_two passed refreshed h = omega (arith, ints)
-
-below_two_debt : (passed refreshed : ℕ) → passed < refreshed + 2 → (pos passed -ℤ pos refreshed) <ℤ pos 2
-below_two_debt passed refreshed h = omega (arith, ints)
 
 debt_at_most : (passed a b : ℕ) → (pos passed -ℤ pos b) ≤ℤ (pos passed -ℤ pos a) → a ≤ b
 debt_at_most passed a b h = omega (arith, ints)
@@ -33,7 +28,7 @@ pub before_due : (h : Header) (clock : ℕ) (log : Log) → 0 < h.timing.nrefi �
 before_due h clock log some nothing =
     let e = div-lt_iff_lt-mul {k = h.timing.nrefi} {x = clock} {y = refs 3 log + 2} some in
     let d = next_due_is h log in
-    let low : clock < (refs 3 log + 2) * h.timing.nrefi = e.0 (debt_below_two (clock / h.timing.nrefi) (refs 3 log) (nothing 3 (omega arith))) in
+    let low : clock < (refs 3 log + 2) * h.timing.nrefi = e.0 (below_back (clock / h.timing.nrefi) (refs 3 log) (nothing 3 (omega arith))) in
     omega arith
 
 pub due_after : (h : Header) (clock : ℕ) (log : Log) → 0 < h.timing.nrefi → Rounds log → clock < next_due h log → IsNothingDue h clock log
@@ -42,7 +37,7 @@ due_after h clock log some r early = λ address low.
     let d = next_due_is h log in
     let passed : clock / h.timing.nrefi < refs 3 log + 2 = e.1 (omega arith) in
     let least = (least_refs log address r low).0 in
-    below_two_debt (clock / h.timing.nrefi) (refs address log) (omega arith)
+    below_two (clock / h.timing.nrefi) (refs address log) (omega arith)
 
 -- the least clock at which a refresh is due is the one that is counted
 pub next_due_unique : (h : Header) (due : ℕ) (log : Log) → 0 < h.timing.nrefi → Rounds log → IsNextDue h log due → due ≡ next_due h log

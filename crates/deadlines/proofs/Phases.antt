@@ -51,7 +51,7 @@ no_close b c o other = go (effect b c) refl
 
 pub stays_calm : (h : Header) (place : Issued) (log : Log) → is_precharge place.command ≡ false → alert h log ≡ None → alert h (place ∷ log) ≡ None
 stays_calm h place log other none =
-    let k : closes_some place.command log ≡ false = any_below_none 32 (λ b. closes (effect b place.command) (open_at b log)) (λ b. no_close b place.command (open_at b log) other) in
+    let k : closes_some place.command log ≡ false = any_below_none 32 (λ b. closes (effect b place.command) (open_at b log)) (λ b low. no_close b place.command (open_at b log) other) in
     rw (k, none) (go (is_rfm_all place.command))
   where
     go : (x : Bool) → alert_after x false place.clock None ≡ None

@@ -1,17 +1,16 @@
 -- What a turn says, read for what is kept: in numbers, for the counts, and for the waiting requests.
-use Rattle.std.proofs.Common.{◌≡◌, ◌∙◌, ℕ, zero, suc, ◌<◌, ◌≤◌, Bool, true, false, ◌&&◌, ◌||◌, ◌==◌, nat_le, ◌⊎◌, inl, inr, refl, sym, ap, arith, cond, List, [], length, Option, Some, None, max, leb-true, IsTrue, eq-eqb, eqb-true}
+use Rattle.std.proofs.Common.{◌≡◌, ◌∙◌, ℕ, ◌<◌, ◌≤◌, Bool, true, false, ◌&&◌, ◌||◌, ◌==◌, nat_le, ◌⊎◌, inl, inr, refl, sym, ap, arith, cond, List, [], length, Option, Some, None, max, leb-true, IsTrue, eq-eqb, eqb-true}
 use Rattle.command_words.specs.Command.{bank_number, is_at, covers}
 use Rattle.command_words.specs.declared.place.Bank.{Bank}
 use Rattle.command_words.specs.declared.command.Command.{Command}
 use Rattle.command_words.specs.declared.command.Command.TheVariants.{Act, Rd, Wr, PrePb, PreSb, PreAb, RefSb, RfmAb, RfmSb, Mrw, Nop}
 use Rattle.speed_bin.specs.Alert.{alert}
-use Rattle.speed_bin.specs.Below.{any_below}
 use Rattle.command_words.specs.Kinds.{Closes, Manages, effect, is_act, is_precharge, is_rfm_all, is_rfm_same, is_mrw, is_nop, Leaves}
 use Rattle.speed_bin.specs.Log.{Issued, Log, open_at, raa}
 use Rattle.speed_bin.specs.Rules.{rule_10, is_wanted}
 use Rattle.speed_bin.specs.declared.header.Header.{Header}
 use Rattle.speed_bin.specs.declared.settings.RefreshMode.{RefreshMode}
-use Rattle.speed_bin.proofs.Tests.{both}
+use Rattle.speed_bin.proofs.Tests.{both, any_below_some}
 use Rattle.speed_bin.proofs.Effects.{closes_precharge}
 use Rattle.requests.specs.Choice.{IsSoonest}
 use Rattle.requests.specs.Owed.{is_column, owed}
@@ -255,16 +254,6 @@ works_act h place log bank row is low none = record {
     shut : (own : Bank) (other : ℕ) → Act own other ≡ Act bank row → open_at (bank_number own) log ≡ None
     shut own other e = let n : bank_number own ≡ bank_number bank = ap number_of e in ap (λ (i : ℕ). open_at i log) n ∙ none
 
--- some number passes a test that holds of some number
-pub any_below_found : (n : ℕ) (test : ℕ → Bool) → any_below n test ≡ true → (i : ℕ) × (i < n) × (test i ≡ true)
-unfolding any_below
-any_below_found zero test k = absurd (cc)
-any_below_found (suc n) test k = go (test n) refl k (any_below_found n test)
-  where
-    go : (x : Bool) → test n ≡ x → (x || any_below n test) ≡ true → (any_below n test ≡ true → (i : ℕ) × (i < n) × (test i ≡ true)) → (i : ℕ) × (i < suc n) × (test i ≡ true)
-    go true is k ih = (n, omega arith, is)
-    go false is k ih = let p = ih k in let low = p.1 in (p.0, omega arith, p.2)
-
 works_rfm_same : (h : Header) (place : Issued) (log : Log) (address : ℕ) → place.command ≡ RfmSb address → IsTrue (rule_10 h place.command log) → Works h place log
 works_rfm_same h place log address is wanted = record {
   act = λ bank row e. absurd (cc);
@@ -279,7 +268,7 @@ works_rfm_same h place log address is wanted = record {
 
     found : (b : ℕ) × (b < 32) × (effect b place.command ≡ Manages) × (h.settings.raaimt ≤ raa h b log)
     found =
-        let p = any_below_found 32 (λ b. covers (RfmSb address) b && nat_le h.settings.raaimt (raa h b log)) high in
+        let p = any_below_some 32 (λ b. covers (RfmSb address) b && nat_le h.settings.raaimt (raa h b log)) high in
         let q = both (is_at address p.0) (nat_le h.settings.raaimt (raa h p.0 log)) p.2 in
         (p.0, p.1, ap (λ (c : Command). effect p.0 c) is ∙ manages p.0 q.0, leb-true h.settings.raaimt (raa h p.0 log) q.1)
       where

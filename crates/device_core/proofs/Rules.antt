@@ -14,16 +14,11 @@ use Rattle.speed_bin.proofs.Present.{absent_closed}
 use Rattle.speed_bin.proofs.Splits.{below_or_not}
 use Rattle.speed_bin.proofs.Tests.{both}
 use Rattle.speed_bin.specs.Rules.{first_failing, rules_at, rule_1, rule_14}
-use Rattle.speed_bin.proofs.Audits.{AllTrue, peak_bounded}
+use Rattle.speed_bin.proofs.Audits.{AllTrue, peak_bounded, all_pass}
 use Rattle.speed_bin.proofs.Bounds.{sound_log}
 use Rattle.bank_state.specs.Standing.{Fits}
 use Rattle.row_activity.specs.Counted.{MayCount}
 use Rattle.device_core.specs.Legal.{IsLegal, AllLegal}
-
-all_pass : (n : ℕ) (tests : List Bool) → first_failing n tests ≡ None → AllTrue tests
-all_pass n [] h = tt
-all_pass n (true ∷ tests) h = (refl, all_pass (suc n) tests h)
-all_pass n (false ∷ tests) h = absurd (cc)
 
 -- each of the fourteen tests of a legal command holds
 pub passes : (h : Header) (clock : ℕ) (command : Command) (log : Log) → IsLegal h clock command log → AllTrue (rules_at h clock command log)

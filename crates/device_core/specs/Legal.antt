@@ -4,7 +4,7 @@ use Rattle.command_words.specs.Command.{IsInRange}
 use Rattle.command_words.specs.declared.command.Command.{Command}
 use Rattle.speed_bin.specs.declared.header.Header.{Header}
 use Rattle.speed_bin.specs.Log.{Log}
-use Rattle.speed_bin.specs.Marks.{is_in_range}
+use Rattle.speed_bin.specs.Marks.{stays_inside}
 use Rattle.speed_bin.specs.Rules.{broken}
 
 -- the command may follow the log at this clock: its parts are in their ranges, the row of an ACT and each bank that is named
@@ -12,7 +12,7 @@ use Rattle.speed_bin.specs.Rules.{broken}
 pub record IsLegal (h : Header) (clock : ℕ) (command : Command) (log : Log) : Type 0 where
   pub in_time : clock < 2 ^ 48
   pub in_range : IsInRange command
-  pub row : IsTrue (is_in_range h command)
+  pub row : IsTrue (stays_inside h command)
   pub rules : broken h clock command log ≡ None
 
 -- each place of the log was legal

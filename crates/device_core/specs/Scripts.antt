@@ -9,7 +9,7 @@ use Rattle.speed_bin.specs.declared.header.Header.{Header}
 use Rattle.speed_bin.specs.declared.settings.Settings.{Settings}
 use Rattle.speed_bin.specs.declared.timing.Timing.{Timing}
 use Rattle.command_words.specs.Kinds.{is_wr}
-use Rattle.speed_bin.specs.Marks.{is_in_range}
+use Rattle.speed_bin.specs.Marks.{stays_inside}
 use Rattle.speed_bin.specs.Rules.{broken}
 use Rattle.device_core.specs.Steps.{Step, log_of}
 use Rattle.device_core.specs.Standing.{with_command}
@@ -41,7 +41,7 @@ played bytes ((clock, first, second, raised) ∷ script) steps = played bytes sc
 
 -- the command is legal there
 abbrev pub may_follow : Header → ℕ → Result Command WordFault → List Step → Bool
-may_follow h clock (Ok command) steps = nat_lt clock (2 ^ 48) && (is_in_range h command && is_none (broken h clock command (log_of steps)))
+may_follow h clock (Ok command) steps = nat_lt clock (2 ^ 48) && (stays_inside h command && is_none (broken h clock command (log_of steps)))
 may_follow h clock (Err fault) steps = false
 
 -- each command of the script is legal in its place

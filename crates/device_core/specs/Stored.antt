@@ -41,7 +41,7 @@ change_of h Ecs bytes log = Some (scrubs (line_after (shape_of h) (scrubs_in log
 change_of h _ bytes log = None
 
 -- what there is, before a list
-abbrev pub also : Option Change → List Change → List Change
+abbrev pub also : {A : Type 0} → Option A → List A → List A
 also None rest = rest
 also (Some first) rest = first ∷ rest
 

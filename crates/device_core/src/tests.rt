@@ -15,36 +15,9 @@ use command_words::{Bank, BankAddr, Column, Command, Group, Place, Row, Words, d
 use ddr_io::OutOfMemory;
 use error_scrub::{LineRead, ScrubCounts};
 use ondie_ecc::ReadState;
-use speed_bin::{Header, RefreshMode, Settings, Timing, Version};
+use speed_bin::{Header, RefreshMode, Settings, TINY, Timing, Version};
 use std::alloc::Global;
 use std::test::Fail;
-
-const TINY: Timing = Timing {
-    ncl: 6,
-    ncwl: 4,
-    nrcd: 3,
-    nrp: 4,
-    nras: 6,
-    nrc: 10,
-    nrrd_s: 2,
-    nrrd_l: 3,
-    nfaw: 10,
-    nccd_s: 8,
-    nccd_l: 10,
-    nccd_l_wr: 12,
-    nwtr_s: 2,
-    nwtr_l: 4,
-    nrtp: 3,
-    nwr: 5,
-    nrfc: 20,
-    nrfcsb: 12,
-    nrfm: 24,
-    nrfmsb: 16,
-    nrefi: 1000,
-    nabo: 32,
-    nmrd: 4,
-    necs: 14,
-};
 
 // With an alert window that a back-off cycle of two activations has room for.
 const SHORT_WINDOW: Timing = Timing { nabo: 13, ..TINY };

@@ -13,3 +13,4 @@ pub mod Clean
 pub mod Capped
 pub mod Traced
 pub mod Served
+mod WorkedMerges

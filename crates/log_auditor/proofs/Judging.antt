@@ -8,7 +8,7 @@ use Rattle.command_words.specs.declared.command.Command.{Command}
 use Rattle.command_words.specs.declared.command.Command.TheVariants.{Act, Rd, Wr, PrePb, PreSb, PreAb, RefAb, RefSb, RfmAb, RfmSb, Mrw, Ecs, Nop}
 use Rattle.ddr_text.specs.ReportGrammar.{has_place}
 use Rattle.speed_bin.specs.Log.{Log, Issued}
-use Rattle.speed_bin.specs.Marks.{is_bank, is_in_range}
+use Rattle.speed_bin.specs.Marks.{is_bank, stays_inside}
 use Rattle.speed_bin.specs.Rules.{first_failing, rule_1, rule_11, rule_12, rule_13, rule_14, rules_at_end, verdict, verdict_at_end}
 use Rattle.speed_bin.specs.declared.header.Header.{Header}
 use Rattle.speed_bin.specs.Header.{shape_of}
@@ -109,7 +109,7 @@ still_fine h clock command log e f = rw (e, f) refl
 own_bank : (h : Header) (bank : Bank) → IsBank bank → nat_lt bank.group h.version.groups ≡ true → is_bank h bank ≡ true
 own_bank h bank inside here = let low = ltb-true bank.group h.version.groups here in let a = inside.address in lt-ltb (bank_number bank) (h.version.groups * 4) (omega (arith, low, a))
 
-pub in_range : (h : Header) (command : Command) → IsInRange command → has_place (shape_of h) command ≡ true → is_in_range h command ≡ true
+pub in_range : (h : Header) (command : Command) → IsInRange command → has_place (shape_of h) command ≡ true → stays_inside h command ≡ true
 in_range h (Act bank row) inside e =
     let p = both (nat_lt row h.settings.rows) (nat_lt bank.group h.version.groups) e in
     joined (nat_lt row h.settings.rows) (is_bank h bank) p.0 (own_bank h bank inside.0 p.1)

@@ -6,6 +6,7 @@ use Rattle.command_words.specs.declared.command.Command.{Command}
 use Rattle.ddr_text.specs.declared.lines.ReportLine.{ReportLine}
 use Rattle.ddr_text.specs.declared.lines.ReportLine.TheVariants.{Issued, Value, Flip, Stat, End, Refused}
 use Rattle.ddr_text.specs.ReportParts.{places_of}
+use Rattle.ddr_text.proofs.Places.{places_of-append}
 use Rattle.speed_bin.specs.Log.{Log, Issued as Place}
 use Rattle.speed_bin.specs.Rules.{verdict, verdict_after, verdict_at_end, broken, broken_at_end}
 use Rattle.speed_bin.specs.declared.header.Header.{Header}
@@ -27,17 +28,8 @@ with_lines_refusal (first ∷ lines) rest = with_lines_refusal lines rest
 
 -- ---- The log and the end
 
-places_append : (a b : List ReportLine) → places_of (a ++ b) ≡ places_of a ++ places_of b
-places_append [] b = refl
-places_append (Issued clock command ∷ a) b = ap (λ l. record { clock = clock; command = command } ∷ l) (places_append a b)
-places_append (Value number line bytes state ∷ a) b = places_append a b
-places_append (Flip clock line device bit ∷ a) b = places_append a b
-places_append (Stat name number ∷ a) b = places_append a b
-places_append (End clock ∷ a) b = places_append a b
-places_append (Refused line reason ∷ a) b = places_append a b
-
 log_append : (lines : List ReportLine) (line : ReportLine) → log_of (lines ++ line ∷ []) ≡ reverse (places_of (line ∷ [])) ++ log_of lines
-log_append lines line = ap reverse (places_append lines (line ∷ [])) ∙ reverse-append (places_of lines) (places_of (line ∷ []))
+log_append lines line = ap reverse (places_of-append lines (line ∷ [])) ∙ reverse-append (places_of lines) (places_of (line ∷ []))
 
 pub log_issued : (lines : List ReportLine) (clock : ℕ) (command : Command) → log_of (lines ++ Issued clock command ∷ []) ≡ record { clock = clock; command = command } ∷ log_of lines
 log_issued lines clock command = log_append lines (Issued clock command)

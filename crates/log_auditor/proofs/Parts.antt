@@ -64,7 +64,7 @@ placed_ok : (line : ReportLine) (o : Option Stage) (found : Placed) → placed l
 placed_ok line None found e = absurd cc
 placed_ok line (Some stage) found e = let same : record { line = line; stage = stage } ≡ found = cc in ap (λ (p : Placed). Some p.stage) same
 
-placed_line : (line : ReportLine) (o : Option Stage) (found : Placed) → placed line o ≡ Ok found → line ≡ found.line
+pub placed_line : (line : ReportLine) (o : Option Stage) (found : Placed) → placed line o ≡ Ok found → line ≡ found.line
 placed_line line None found e = absurd cc
 placed_line line (Some stage) found e = let same : record { line = line; stage = stage } ≡ found = cc in ap (λ (p : Placed). p.line) same
 

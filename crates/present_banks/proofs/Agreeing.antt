@@ -9,7 +9,7 @@ use Rattle.speed_bin.specs.Below.{all_below}
 use Rattle.speed_bin.specs.Gap.{gap}
 use Rattle.speed_bin.specs.Header.{IsAccepted}
 use Rattle.speed_bin.specs.Log.{Log, open_at}
-use Rattle.speed_bin.specs.Marks.{RowsInRange, is_in_range, opens_inside}
+use Rattle.speed_bin.specs.Marks.{RowsInRange, stays_inside, opens_inside}
 use Rattle.speed_bin.specs.Page.{keeps_page, last_row, reopens}
 use Rattle.speed_bin.specs.Present.{has_bank, HasBanks}
 use Rattle.speed_bin.specs.Rules.{all_closed, first_failing, is_wanted, rule_2, rule_5, rules_at, rules_at_end, verdict, verdict_after, verdict_at_end}
@@ -59,7 +59,7 @@ ready h ok = record {
   raaimt = ok.settings.raaimt.0;
 }
 
-pub own_bank : (h : Header) (command : Command) → IsTrue (is_in_range h command) → has_bank h.version.groups command ≡ true
+pub own_bank : (h : Header) (command : Command) → IsTrue (stays_inside h command) → has_bank h.version.groups command ≡ true
 own_bank h command inside = (both (opens_inside h command) (has_bank h.version.groups command) inside).1
 
 -- ---- Spacing

@@ -7,7 +7,7 @@ use Rattle.command_words.specs.declared.command.Command.TheVariants.{Act, Rd, Wr
 use Rattle.speed_bin.specs.Counters.{acts}
 use Rattle.speed_bin.specs.Counts.{acts_opened, peak}
 use Rattle.speed_bin.specs.Log.{Log}
-use Rattle.speed_bin.specs.Marks.{RowsInRange, is_in_range, opens_inside}
+use Rattle.speed_bin.specs.Marks.{RowsInRange, stays_inside, opens_inside}
 use Rattle.speed_bin.specs.Present.{has_bank}
 use Rattle.speed_bin.specs.declared.header.Header.{Header}
 use Rattle.speed_bin.proofs.CounterWording.{peak_above}
@@ -38,7 +38,7 @@ abbrev of_all : ℕ → Header → Log → ℕ
 of_all n h log = greatest_below n (λ b. greatest_below h.settings.rows (λ row. acts h b row log))
 
 -- an ACT in range opens a row of one of so many banks
-opened_at_most : (n : ℕ) (h : Header) (command : Command) (log : Log) → banks_of_header h ≤ n → IsTrue (is_in_range h command) → acts_opened h command log ≤ of_all n h log
+opened_at_most : (n : ℕ) (h : Header) (command : Command) (log : Log) → banks_of_header h ≤ n → IsTrue (stays_inside h command) → acts_opened h command log ≤ of_all n h log
 opened_at_most n h (Act bank row) log few inside =
     let p = both (opens_inside h (Act bank row)) (has_bank h.version.groups (Act bank row)) inside in
     let in_row = at_most_greatest h.settings.rows row (λ r. acts h (bank_number bank) r log) (ltb-true row h.settings.rows p.0) in

@@ -1,14 +1,14 @@
 -- The definitions of a log that speak of all banks, over so many of them: over those whose numbers are below the first
 -- argument. Each is that of `speed_bin` but for this number; what speaks of one bank, or of none, stands there alone.
-use Rattle.std.specs.Prelude.{ℕ, zero, suc, ◌+◌, ◌-◌, Bool, true, not, ◌&&◌, ◌||◌, ◌==◌, nat_le, List, [], ◌∷◌, length, max, Option, None, is_none, is_some}
+use Rattle.std.specs.Prelude.{ℕ, zero, suc, ◌+◌, Bool, true, not, ◌&&◌, ◌||◌, nat_le, List, [], ◌∷◌, length, max, Option, None, is_none, is_some}
 use Rattle.std.specs.List.{list_all}
 use Rattle.command_words.specs.Command.{covers}
-use Rattle.command_words.specs.Kinds.{effect, group_of, is_act, is_mrw, is_nop, is_precharge, is_rd, is_ref_all, is_ref_same, is_rfm_all, is_rfm_same, is_scrub, is_wr, needs_closed}
+use Rattle.command_words.specs.Kinds.{effect, is_act, is_rfm_all, is_rfm_same, needs_closed}
 use Rattle.command_words.specs.declared.command.Command.{Command}
 use Rattle.speed_bin.specs.Alert.{alert_after, closes}
 use Rattle.speed_bin.specs.Below.{all_below, any_below}
 use Rattle.speed_bin.specs.Counters.{acts, cnt}
-use Rattle.speed_bin.specs.Gap.{Entry, greatest, n_tail}
+use Rattle.speed_bin.specs.Gap.{gap_table_where, greatest, n_tail}
 use Rattle.speed_bin.specs.Log.{Log, open_at, raa}
 use Rattle.speed_bin.specs.Page.{last_row, reopens}
 use Rattle.speed_bin.specs.Present.{banks_of}
@@ -26,34 +26,7 @@ banks_of_header h = banks_of h.version.groups
 abbrev pub meet_over : ℕ → Command → Command → Bool
 meet_over banks first second = any_below banks (λ b. covers first b && covers second b)
 
--- the gap table of two commands of which it is known whether they meet
-abbrev pub gap_table_where : Bool → Timing → Command → Command → List Entry
-gap_table_where together t first second = let same_group = group_of first == group_of second in
-    record { applies = is_act first || (is_rd first || (is_wr first || is_mrw first)); clocks = 2 }
-    ∷ record { applies = true; clocks = 1 }
-    ∷ record { applies = is_act first && is_act second; clocks = t.nrrd_s }
-    ∷ record { applies = is_act first && (is_act second && same_group); clocks = t.nrrd_l }
-    ∷ record { applies = is_act first && (is_act second && together); clocks = t.nrc }
-    ∷ record { applies = is_act first && ((is_rd second || is_wr second) && together); clocks = t.nrcd }
-    ∷ record { applies = is_act first && (is_precharge second && together); clocks = t.nras }
-    ∷ record { applies = is_rd first && is_rd second; clocks = t.nccd_s }
-    ∷ record { applies = is_rd first && (is_rd second && same_group); clocks = t.nccd_l }
-    ∷ record { applies = is_wr first && is_wr second; clocks = t.nccd_s }
-    ∷ record { applies = is_wr first && (is_wr second && same_group); clocks = t.nccd_l_wr }
-    ∷ record { applies = is_rd first && is_wr second; clocks = t.ncl + 10 - t.ncwl }
-    ∷ record { applies = is_wr first && is_rd second; clocks = t.ncwl + 8 + t.nwtr_s }
-    ∷ record { applies = is_wr first && (is_rd second && same_group); clocks = t.ncwl + 8 + t.nwtr_l }
-    ∷ record { applies = is_rd first && (is_precharge second && together); clocks = t.nrtp }
-    ∷ record { applies = is_wr first && (is_precharge second && together); clocks = t.ncwl + 8 + t.nwr }
-    ∷ record { applies = is_precharge first && ((is_act second || needs_closed second) && together); clocks = t.nrp }
-    ∷ record { applies = is_ref_all first && not (is_nop second); clocks = t.nrfc }
-    ∷ record { applies = is_ref_same first && (not (is_nop second) && together); clocks = t.nrfcsb }
-    ∷ record { applies = is_rfm_all first && not (is_nop second); clocks = t.nrfm }
-    ∷ record { applies = is_rfm_same first && (not (is_nop second) && together); clocks = t.nrfmsb }
-    ∷ record { applies = is_scrub first && not (is_nop second); clocks = t.necs }
-    ∷ record { applies = is_mrw first && not (is_nop second); clocks = t.nmrd }
-    ∷ []
-
+-- the gap of two commands of which it is known whether they meet
 abbrev pub gap_where : Bool → Timing → Command → Command → ℕ
 gap_where together t first second = greatest (gap_table_where together t first second)
 

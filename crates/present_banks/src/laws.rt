@@ -7,7 +7,7 @@ ghost use Rattle.speed_bin.specs.Alert.{alert, is_hot};
 ghost use Rattle.speed_bin.specs.Counts.{peak};
 ghost use Rattle.speed_bin.specs.Header.{IsAccepted};
 ghost use Rattle.speed_bin.specs.Log.{Log, open_at};
-ghost use Rattle.speed_bin.specs.Marks.{RowsInRange, is_in_range};
+ghost use Rattle.speed_bin.specs.Marks.{RowsInRange, stays_inside};
 ghost use Rattle.speed_bin.specs.Page.{keeps_page};
 ghost use Rattle.speed_bin.specs.Rules.{rules_at, rules_at_end, verdict, verdict_at_end};
 ghost use Rattle.speed_bin.specs.declared.header.Header.{Header};
@@ -15,7 +15,7 @@ ghost use Rattle.present_banks.specs.Over.{banks_of_header, alert_over, is_hot_o
 
 /// Each of the fourteen tests of a command, and of an end.
 pub fn rules()
-    ensures at_a_place { (h : Header) (clock : ℕ) (command : Command) (log : Log) → IsAccepted h → RowsInRange h log → IsTrue (is_in_range h command)
+    ensures at_a_place { (h : Header) (clock : ℕ) (command : Command) (log : Log) → IsAccepted h → RowsInRange h log → IsTrue (stays_inside h command)
         → rules_at h clock command log ≡ rules_at_over (banks_of_header h) h clock command log }
     ensures at_the_end { (h : Header) (clock : ℕ) (log : Log) → IsAccepted h → RowsInRange h log
         → rules_at_end h clock log ≡ rules_at_end_over (banks_of_header h) h clock log }

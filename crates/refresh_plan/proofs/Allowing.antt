@@ -8,7 +8,7 @@ use Rattle.speed_bin.specs.Log.{Log, refs, scrubs}
 use Rattle.speed_bin.specs.Rules.{is_on_time, rule_6, rule_7, rule_8, first_failing}
 use Rattle.refresh_plan.specs.Held.{Held, after, scrubs_in_time}
 use Rattle.refresh_plan.specs.Standing.{Keeps, IsAllowed, refresh_rules}
-use Rattle.refresh_plan.proofs.AllBelow.{both, joined, same_tests, all_below_at, all_below_from}
+use Rattle.speed_bin.proofs.Tests.{both, joined, same_tests, all_below_at, all_below_from}
 use Rattle.refresh_plan.proofs.Counts.{after_refs}
 
 pub on_time_test : (h : Header) (clock interval : ℕ) (log : Log) (counts : List ℕ) (result : Bool) → interval ≡ h.timing.nrefi → ((address : ℕ) → address < 4 → slice_index counts address ≡ refs address log) → (IsTrue result ↔ ((address : ℕ) → address < 4 → (clock / interval ≤ slice_index counts address + 4) × (slice_index counts address ≤ clock / interval + 4))) → result ≡ all_below 4 (λ address. is_on_time h clock address log)

@@ -1,4 +1,3 @@
-pub mod AllBelow
 pub mod Counts
 pub mod Allowing
 pub mod Owing

@@ -10,10 +10,10 @@ use Rattle.refresh_plan.specs.Held.{Held}
 use Rattle.refresh_plan.specs.Standing.{Keeps}
 use Rattle.refresh_plan.specs.Debts.{debt, IsNothingDue, IsMostBehind}
 
-below_two : (passed refreshed : ℕ) → passed < refreshed + 2 → (pos passed -ℤ pos refreshed) <ℤ pos 2
+pub below_two : (passed refreshed : ℕ) → passed < refreshed + 2 → (pos passed -ℤ pos refreshed) <ℤ pos 2
 below_two passed refreshed h = omega (arith, ints)
 
-below_back : (passed refreshed : ℕ) → (pos passed -ℤ pos refreshed) <ℤ pos 2 → passed < refreshed + 2
+pub below_back : (passed refreshed : ℕ) → (pos passed -ℤ pos refreshed) <ℤ pos 2 → passed < refreshed + 2
 below_back passed refreshed h = omega (arith, ints)
 
 fewer_le : (passed a b : ℕ) → a ≤ b → (pos passed -ℤ pos b) ≤ℤ (pos passed -ℤ pos a)

@@ -11,7 +11,7 @@ use Rattle.speed_bin.specs.Log.{Log, refs, scrubs}
 use Rattle.speed_bin.specs.Rules.{is_on_time, rule_6}
 use Rattle.refresh_plan.specs.Held.{Held, IsBounded, after}
 use Rattle.refresh_plan.specs.Standing.{Keeps, StandsFor, IsAllowed, MayIssue}
-use Rattle.refresh_plan.proofs.AllBelow.{both, all_below_at}
+use Rattle.speed_bin.proofs.Tests.{both, all_below_at}
 use Rattle.refresh_plan.proofs.Counts.{scrubs-cons, after_refs}
 
 zero_at : (n b : ℕ) → slice_index (replicate n 0) b ≡ 0

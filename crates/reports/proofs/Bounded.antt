@@ -9,7 +9,7 @@ use Rattle.command_words.specs.declared.command.Command.TheVariants.{Act, Rd, Wr
 use Rattle.speed_bin.specs.Counters.{acts}
 use Rattle.speed_bin.specs.Header.{IsAccepted, bound, shape_of}
 use Rattle.speed_bin.specs.Log.{Log}
-use Rattle.speed_bin.specs.Marks.{is_bank, is_in_range, Keeps}
+use Rattle.speed_bin.specs.Marks.{is_bank, stays_inside, Keeps}
 use Rattle.speed_bin.specs.Rules.{broken, broken_at_end, verdict, verdict_after, verdict_at_end}
 use Rattle.speed_bin.proofs.Tests.{joined}
 use Rattle.speed_bin.specs.declared.header.Header.{Header}
@@ -34,7 +34,7 @@ verdict-run h trace run clock r =
 own-bank : (h : Header) (bank : Bank) → bank.group < h.version.groups → bank.address < 4 → is_bank h bank ≡ true
 own-bank h bank group address = lt-ltb (bank_number bank) (h.version.groups * 4) (omega (arith, group, address))
 
-pub row-in-range : (h : Header) (command : Command) → IsCommandOf (shape_of h) command → IsTrue (is_in_range h command)
+pub row-in-range : (h : Header) (command : Command) → IsCommandOf (shape_of h) command → IsTrue (stays_inside h command)
 row-in-range h (Act bank row) w = joined (nat_lt row h.settings.rows) (is_bank h bank) (lt-ltb row h.settings.rows w.1) (own-bank h bank w.0.group w.0.address)
 row-in-range h (Rd bank column) w = own-bank h bank w.0.group w.0.address
 row-in-range h (Wr bank column) w = own-bank h bank w.0.group w.0.address

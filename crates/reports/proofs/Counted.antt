@@ -25,7 +25,8 @@ use Rattle.reports.specs.Whole.{whole}
 use Rattle.ddr_text.specs.ReportParts.{Refusal, refusal_lines, places_of}
 use Rattle.reports.proofs.Answered.{values-append, values-map, each_read_answered}
 use Rattle.reports.proofs.Bits.{turned-append, turned-answers, each_flip_turned}
-use Rattle.reports.proofs.Logged.{logged, places_of-append, places_of-answers}
+use Rattle.ddr_text.proofs.Places.{places_of-append}
+use Rattle.reports.proofs.Logged.{logged, places_of-answers}
 use Rattle.reports.proofs.Offered.{wait, numbered-part, served-rank}
 
 -- ---- Requests that are not served

@@ -44,7 +44,7 @@ few-groups : (g k : ℕ) → IsGroups k → g < k → g < 8
 few-groups g k (inl e) low = omega (arith, e, low)
 few-groups g k (inr e) low = omega (arith, e, low)
 
-in-range : (h : Header) (command : Command) → IsAccepted h → IsCommandOf (shape_of h) command → IsInRange command
+pub in-range : (h : Header) (command : Command) → IsAccepted h → IsCommandOf (shape_of h) command → IsInRange command
 in-range h (Act bank row) a w = (record { group = few-groups bank.group h.version.groups a.version.2 w.0.group; address = w.0.address }, omega (arith, w.1, a.settings.rows.1))
 in-range h (Rd bank column) a w = (record { group = few-groups bank.group h.version.groups a.version.2 w.0.group; address = w.0.address }, w.1)
 in-range h (Wr bank column) a w = (record { group = few-groups bank.group h.version.groups a.version.2 w.0.group; address = w.0.address }, w.1)

@@ -13,6 +13,7 @@ use Rattle.reports.specs.Sound.{IsSoundStep, Sound}
 use Rattle.reports.proofs.Found.{requests-append, flips-append, Between, Between-asked}
 use Rattle.reports.proofs.Order.{IsNext-more}
 use Rattle.reports.proofs.Longer.{flip-within}
+use Rattle.reports.proofs.Underway.{and-both, and-left, and-right}
 
 -- ---- A longer run
 
@@ -36,18 +37,6 @@ slice_get-front : (xs ys : List ℕ) (k v : ℕ) → slice_get xs k ≡ Some v �
 slice_get-front [] ys k v e = cc
 slice_get-front (x ∷ xs) ys zero v e = e
 slice_get-front (x ∷ xs) ys (suc k) v e = slice_get-front xs ys k v e
-
-and-both : (a b : Bool) → IsTrue a → IsTrue b → IsTrue (a && b)
-and-both true b h k = k
-and-both false b h k = cc
-
-and-left : (a b : Bool) → IsTrue (a && b) → IsTrue a
-and-left true b h = refl
-and-left false b h = cc
-
-and-right : (a b : Bool) → IsTrue (a && b) → IsTrue b
-and-right true b h = h
-and-right false b h = cc
 
 above : (number low high : ℕ) (rs : List Request) → number < low → Between low high rs → IsTrue (list_all (λ r. nat_lt number r.number) rs)
 above number low high [] h k = refl

@@ -4,8 +4,9 @@ use Rattle.std.specs.Prelude.{option_map}
 use Rattle.std.proofs.lemmas.List.{reverse-append, map-append}
 use Rattle.speed_bin.specs.declared.header.Header.{Header}
 use Rattle.ddr_text.specs.declared.lines.TraceLine.{TraceLine}
+use Rattle.device_core.specs.Stored.{also}
 use Rattle.reports.specs.Requests.{Request, requests, on}
-use Rattle.reports.specs.Runs.{Issues, Flips, Run, log_of, also, served}
+use Rattle.reports.specs.Runs.{Issues, Flips, Run, log_of, served}
 use Rattle.reports.specs.Accesses.{Access, access_of, accesses, of_line, InOrder, BeginsInOrder}
 use Rattle.speed_bin.specs.Header.{shape_of}
 use Rattle.reports.specs.Sound.{Sound, IsRun}

@@ -9,8 +9,9 @@ use Rattle.speed_bin.specs.declared.header.Header.{Header}
 use Rattle.ddr_text.specs.declared.lines.TraceLine.{TraceLine}
 use Rattle.ddr_text.specs.declared.lines.TraceLine.TheVariants.{Read, Write, Flip, Idle}
 use Rattle.ddr_text.specs.declared.lines.ReportLine.TheVariants.{Flip as FlipLine}
+use Rattle.device_core.specs.Stored.{also}
 use Rattle.reports.specs.Requests.{Request, request_of, requests, flips_from, flips}
-use Rattle.reports.specs.Runs.{Issues, Flips, Run, also, served, flipped, log_of, is_served, held, ready}
+use Rattle.reports.specs.Runs.{Issues, Flips, Run, served, flipped, log_of, is_served, held, ready}
 use Rattle.reports.specs.Barriers.{Serving, servings, with_serving, idle_clocks, idles_between, is_past, is_apart, AreApart}
 use Rattle.reports.specs.Offered.{asked, offered, rank, ranked}
 use Rattle.reports.specs.Report.{flip_lines, latest}

@@ -11,15 +11,7 @@ use Rattle.speed_bin.specs.declared.header.Header.{Header}
 use Rattle.reports.specs.Report.{answer, flip_lines, latest, report}
 use Rattle.speed_bin.specs.Log.{last_clock}
 use Rattle.ddr_text.specs.ReportParts.{places_of}
-
-pub places_of-append : (a b : List ReportLine) → places_of (a ++ b) ≡ places_of a ++ places_of b
-places_of-append [] b = refl
-places_of-append (IssuedLine clock command ∷ a) b = ap (λ l. record { clock = clock; command = command } ∷ l) (places_of-append a b)
-places_of-append (ValueLine number line bytes state ∷ a) b = places_of-append a b
-places_of-append (FlipLine clock line device bit ∷ a) b = places_of-append a b
-places_of-append (StatLine name number ∷ a) b = places_of-append a b
-places_of-append (EndLine clock ∷ a) b = places_of-append a b
-places_of-append (RefusedLine line reason ∷ a) b = places_of-append a b
+use Rattle.ddr_text.proofs.Places.{places_of-append}
 
 pub places_of-answers : (h : Header) (trace : List TraceLine) (run : Run) (rs : List Request) → places_of (map (answer h trace run) rs) ≡ []
 places_of-answers h trace run [] = refl

@@ -3,7 +3,7 @@ use Rattle.std.proofs.Common.{◌≡◌, ℕ, zero, suc, ◌+◌, ◌-◌, ◌<�
 use Rattle.std.specs.Prelude.{IfSome}
 use Rattle.std.proofs.lemmas.List.{take-append-le}
 use Rattle.device_core.specs.Steps.{Issues as Gives}
-use Rattle.device_core.specs.Stored.{changes_of, reading}
+use Rattle.device_core.specs.Stored.{changes_of, reading, also}
 use Rattle.speed_bin.specs.Header.{shape_of}
 use Rattle.reports.specs.Delivered.{bytes_in, bytes_for, with_flip, device_steps}
 use Rattle.reports.specs.Readings.{before, changes_before}
@@ -12,7 +12,7 @@ use Rattle.ddr_text.specs.declared.lines.TraceLine.{TraceLine}
 use Rattle.ddr_text.specs.declared.lines.TraceLine.TheVariants.{Read, Write, Flip, Idle}
 use Rattle.ddr_text.specs.declared.lines.ReportLine.TheVariants.{Value as ValueLine}
 use Rattle.reports.specs.Requests.{Request, requests_from, requests, reads, flips_from}
-use Rattle.reports.specs.Runs.{Step, Issues, Flips, Run, log_of, also, served, is_served, IsNext, ready, held}
+use Rattle.reports.specs.Runs.{Step, Issues, Flips, Run, log_of, served, is_served, IsNext, ready, held}
 use Rattle.reports.specs.Memory.{zeros, last_write, memory}
 use Rattle.reports.specs.Report.{answer, answers, issued_line, flip_lines, latest, report}
 use Rattle.speed_bin.specs.Log.{last_clock}

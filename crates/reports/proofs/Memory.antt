@@ -6,8 +6,9 @@ use Rattle.speed_bin.specs.declared.header.Header.{Header}
 use Rattle.ddr_text.specs.declared.lines.TraceLine.{TraceLine}
 use Rattle.ddr_text.specs.declared.lines.TraceLine.TheVariants.{Read, Write, Flip, Idle}
 use Rattle.requests.specs.declared.request.Kind.TheVariants.{Read as Reads, Write as Writes}
+use Rattle.device_core.specs.Stored.{also}
 use Rattle.reports.specs.Requests.{Request, request_of, requests_from, requests, on}
-use Rattle.reports.specs.Runs.{Served, Issues, Flips, Run, also, served, IsNext}
+use Rattle.reports.specs.Runs.{Served, Issues, Flips, Run, served, IsNext}
 use Rattle.reports.specs.Memory.{zeros, written, last_write, memory, after_line, stored_by, stored}
 use Rattle.reports.specs.Sound.{Sound}
 use Rattle.reports.proofs.Found.{IsAt, is_at}

@@ -19,8 +19,9 @@ use Rattle.requests.specs.declared.request.Kind.TheVariants.{Read as Reads, Writ
 use Rattle.requests.specs.declared.request.Request.{Request as Asked}
 use Rattle.requests.specs.declared.waiting.Waiting.{Waiting}
 use Rattle.ddr_text.specs.declared.lines.TraceLine.{TraceLine}
+use Rattle.device_core.specs.Stored.{also}
 use Rattle.reports.specs.Requests.{Request, requests, on}
-use Rattle.reports.specs.Runs.{Issues, Flips, Run, log_of, also, served, has, is_served, IsNext}
+use Rattle.reports.specs.Runs.{Issues, Flips, Run, log_of, served, has, is_served, IsNext}
 use Rattle.reports.specs.Accesses.{access_of, access_at}
 use Rattle.reports.specs.Offered.{asked, offered, rank, rank_of, ranked, controller_steps}
 use Rattle.reports.specs.Sound.{Sound}

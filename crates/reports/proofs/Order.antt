@@ -5,8 +5,9 @@ use Rattle.std.proofs.lemmas.Bool.{eqb-true}
 use Rattle.std.proofs.lemmas.List.{reverse-append}
 use Rattle.speed_bin.specs.declared.header.Header.{Header}
 use Rattle.ddr_text.specs.declared.lines.TraceLine.{TraceLine}
+use Rattle.device_core.specs.Stored.{also}
 use Rattle.reports.specs.Requests.{Request, requests, on}
-use Rattle.reports.specs.Runs.{Served, Issues, Flips, Run, also, served, Serves, IsNext}
+use Rattle.reports.specs.Runs.{Served, Issues, Flips, Run, served, Serves, IsNext}
 use Rattle.reports.specs.Sound.{Sound}
 use Rattle.reports.proofs.Found.{nothing}
 use Rattle.reports.proofs.Ready.{on-append, on-own}

@@ -10,10 +10,11 @@ use Rattle.speed_bin.specs.Rules.{rule_1}
 use Rattle.speed_bin.specs.declared.header.Header.{Header}
 use Rattle.ddr_text.specs.declared.lines.TraceLine.{TraceLine}
 use Rattle.ddr_text.specs.declared.lines.TraceLine.TheVariants.{Read, Write, Flip, Idle}
+use Rattle.device_core.specs.Stored.{also}
 use Rattle.reports.specs.Barriers.{idle_clocks, idles_between, is_past, Serving, with_serving, servings, is_apart, AreApart}
 use Rattle.reports.specs.Readings.{before}
 use Rattle.reports.specs.Requests.{Request, request_of, requests_from, requests}
-use Rattle.reports.specs.Runs.{Issues, Flips, Run, log_of, also, served, has, is_served}
+use Rattle.reports.specs.Runs.{Issues, Flips, Run, log_of, served, has, is_served}
 use Rattle.reports.specs.Sound.{Sound}
 use Rattle.reports.proofs.Found.{IsAt, is_at, requests-append, Between, Between-asked}
 use Rattle.reports.proofs.Kept.{first-rule}

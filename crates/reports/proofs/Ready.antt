@@ -3,8 +3,9 @@ use Rattle.std.proofs.Common.{◌≡◌, ℕ, ◌==◌, ◌||◌, Bool, true, fa
 use Rattle.std.proofs.lemmas.Bool.{eq-eqb}
 use Rattle.std.proofs.lemmas.List.{reverse-append, append_cancel_left}
 use Rattle.std.proofs.lemmas.List.Elements.{filter-append}
+use Rattle.device_core.specs.Stored.{also}
 use Rattle.reports.specs.Requests.{Request, on}
-use Rattle.reports.specs.Runs.{Step, Issues, Flips, Run, also, served, has, is_served, Serves, ready, held}
+use Rattle.reports.specs.Runs.{Step, Issues, Flips, Run, served, has, is_served, Serves, ready, held}
 
 -- ---- Whether a request is among others
 

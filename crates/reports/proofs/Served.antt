@@ -5,8 +5,9 @@ use Rattle.std.proofs.lemmas.Bool.{eqb-true, eq-eqb}
 use Rattle.std.proofs.lemmas.List.{reverse-reverse}
 use Rattle.speed_bin.specs.declared.header.Header.{Header}
 use Rattle.ddr_text.specs.declared.lines.TraceLine.{TraceLine}
+use Rattle.device_core.specs.Stored.{also}
 use Rattle.reports.specs.Requests.{Request, request_of, requests_from, requests, on}
-use Rattle.reports.specs.Runs.{Issues, Flips, Run, also, served, has, is_served, IsNext}
+use Rattle.reports.specs.Runs.{Issues, Flips, Run, served, has, is_served, IsNext}
 use Rattle.reports.specs.Readings.{before}
 use Rattle.reports.specs.Sound.{Sound}
 use Rattle.reports.proofs.Ready.{or-split, or-left, or-right, has-on, has-reverse, on-own}

@@ -6,8 +6,9 @@ use Rattle.std.proofs.lemmas.Option.{slice_get_within, get_or_from_slice_get}
 use Rattle.ddr_text.specs.declared.lines.TraceLine.{TraceLine}
 use Rattle.ddr_text.specs.declared.lines.TraceLine.TheVariants.{Read, Write, Flip, Idle}
 use Rattle.requests.specs.declared.request.Kind.TheVariants.{Read as Reads, Write as Writes}
+use Rattle.device_core.specs.Stored.{also}
 use Rattle.reports.specs.Requests.{Request, request_of, requests_from, requests, on, flip_of, flips}
-use Rattle.reports.specs.Runs.{Served, Issues, Flips, Run, also, has, served, is_served, flipped, Serves, IsNext, IsThrough, ready, held}
+use Rattle.reports.specs.Runs.{Served, Issues, Flips, Run, has, served, is_served, flipped, Serves, IsNext, IsThrough, ready, held}
 use Rattle.speed_bin.specs.declared.header.Header.{Header}
 use Rattle.reports.specs.Report.{answers, issued_line, latest}
 use Rattle.reports.proofs.Ready.{has-on, has-reverse, has-append_right, or-left, on-append, on-own, ready-of_held, ready-all, held-past, held-unready}

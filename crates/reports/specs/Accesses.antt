@@ -11,8 +11,9 @@ use Rattle.speed_bin.specs.Log.{Log, open_at}
 use Rattle.ddr_text.specs.declared.lines.TraceLine.{TraceLine}
 use Rattle.requests.specs.declared.request.Kind.{Kind}
 use Rattle.requests.specs.declared.request.Kind.TheVariants.{Read as Reads, Write as Writes}
+use Rattle.device_core.specs.Stored.{also}
 use Rattle.reports.specs.Requests.{Request, requests}
-use Rattle.reports.specs.Runs.{Served, also}
+use Rattle.reports.specs.Runs.{Served}
 
 -- the line in the open row of a bank, at this column
 abbrev pub line_in : Shape → Bank → ℕ → Option ℕ → Option ℕ

@@ -1,6 +1,7 @@
 -- What a run did, step by step, and what it serves of the requests that it was offered. The newest step stands first.
 use Rattle.std.specs.Prelude.{ℕ, ◌≡◌, ◌==◌, ◌||◌, Bool, false, if◌then◌else◌, Option, Some, None, List, [], ◌∷◌, ◌++◌, reverse, take, filter, not}
 use Rattle.speed_bin.specs.Log.{Issued, Log}
+use Rattle.device_core.specs.Stored.{also}
 use Rattle.ddr_text.specs.declared.lines.TraceLine.{TraceLine}
 use Rattle.reports.specs.Requests.{Request, requests, on, flips}
 
@@ -22,11 +23,6 @@ abbrev pub log_of : Run → Log
 log_of [] = []
 log_of (Issues s ∷ run) = s.issued ∷ log_of run
 log_of (Flips number ∷ run) = log_of run
-
--- what there is, before a list
-abbrev pub also : {A : Type 0} → Option A → List A → List A
-also None rest = rest
-also (Some first) rest = first ∷ rest
 
 -- the requests that it serves
 abbrev pub served : Run → List Request

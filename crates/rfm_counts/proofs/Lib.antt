@@ -1,3 +1,2 @@
-pub mod AnyBelow
 pub mod Steps
 pub mod Wanting

@@ -7,7 +7,7 @@ use Rattle.speed_bin.specs.Log.{Log, raa}
 use Rattle.speed_bin.specs.Rules.{is_wanted}
 use Rattle.rfm_counts.specs.Held.{Held, is_high_at}
 use Rattle.rfm_counts.specs.Standing.{Keeps}
-use Rattle.rfm_counts.proofs.AnyBelow.{both, joined, any_below_at, any_below_none, any_below_some, any_below_same}
+use Rattle.speed_bin.proofs.Tests.{both, joined, any_below_at, any_below_none, any_below_some, any_below_same}
 
 pub high_is_wanted : (it : Held) (h : Header) (log : Log) (address : ℕ) → Keeps it h log → is_high_at it address ≡ is_wanted h (RfmSb address) log
 high_is_wanted it h log address keeps =

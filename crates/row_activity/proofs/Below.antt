@@ -7,26 +7,11 @@ use Rattle.speed_bin.specs.Counters.{Counter, counters, count_of, tracked, cnt}
 use Rattle.speed_bin.specs.Header.{IsAccepted}
 use Rattle.speed_bin.specs.Log.{Log}
 use Rattle.speed_bin.proofs.Rows.{tracked_greatest, tracked_inside}
-use Rattle.speed_bin.proofs.Tests.{any_below_at}
+use Rattle.speed_bin.proofs.Tests.{any_below_at, any_below_none, any_below_same}
 use Rattle.row_activity.specs.Counted.{AllCounted}
 use Rattle.row_activity.specs.Standing.{BankFor, bank_at, greatest_count}
 use Rattle.row_activity.specs.declared.bank_rows.BankRows.{BankRows}
 use Rattle.row_activity.proofs.Counting.{sound}
-
-pub none_below : (n : ℕ) (test : ℕ → Bool) → ((i : ℕ) → i < n → test i ≡ false) → any_below n test ≡ false
-unfolding any_below
-none_below zero test h = refl
-none_below (suc n) test h =
-    let here = h n (omega arith) in
-    rw here (none_below n test (λ i low. h i (omega arith)))
-
-same_below : (n : ℕ) (test other : ℕ → Bool) → ((i : ℕ) → i < n → test i ≡ other i) → any_below n test ≡ any_below n other
-unfolding any_below
-same_below zero test other h = refl
-same_below (suc n) test other h =
-    let ih = same_below n test other (λ i low. h i (omega arith)) in
-    let e = h n (omega arith) in
-    rw (e, ih) refl
 
 -- some counter is at least a threshold exactly where the greatest is
 hot_counters : (ath : ℕ) (cs : List Counter) → 0 < length cs → any_below (length cs) (λ row. nat_le ath (count_of cs row)) ≡ nat_le ath (count_of cs (tracked cs))
@@ -34,7 +19,7 @@ hot_counters ath cs some = go (nat_le ath (count_of cs (tracked cs))) refl
   where
     go : (t : Bool) → nat_le ath (count_of cs (tracked cs)) ≡ t → any_below (length cs) (λ row. nat_le ath (count_of cs row)) ≡ t
     go true e = any_below_at (length cs) (λ row. nat_le ath (count_of cs row)) (tracked cs) (tracked_inside cs some) e
-    go false e = none_below (length cs) (λ row. nat_le ath (count_of cs row)) (λ row low. cold row (nat_le ath (count_of cs row)) refl)
+    go false e = any_below_none (length cs) (λ row. nat_le ath (count_of cs row)) (λ row low. cold row (nat_le ath (count_of cs row)) refl)
       where
         cold : (row : ℕ) (t : Bool) → nat_le ath (count_of cs row) ≡ t → t ≡ false
         cold row false k = refl
@@ -54,5 +39,5 @@ hot_bank h b log accepted counted low =
 -- some bank is hot exactly where one is known to be
 pub hot_is : (banks : List BankRows) (h : Header) (log : Log) → IsAccepted h → AllCounted h log → ((b : ℕ) → b < 32 → BankFor (bank_at banks b) h b log) → any_below 32 (λ b. (bank_at banks b).is_hot) ≡ is_hot h log
 hot_is banks h log accepted counted each =
-    same_below 32 (λ b. (bank_at banks b).is_hot) (λ b. any_below h.settings.rows (λ row. nat_le h.settings.ath (cnt h b row log)))
+    any_below_same 32 (λ b. (bank_at banks b).is_hot) (λ b. any_below h.settings.rows (λ row. nat_le h.settings.ath (cnt h b row log)))
     (λ b low. (each b low).is_hot ∙ sym (hot_bank h b log accepted counted low))

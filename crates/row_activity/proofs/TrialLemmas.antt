@@ -7,7 +7,7 @@ use Rattle.speed_bin.specs.Below.{all_below, any_below}
 use Rattle.speed_bin.specs.Gap.{n_tail, n_max, n_close, n_col}
 use Rattle.speed_bin.specs.Header.{IsAccepted, spare}
 use Rattle.speed_bin.specs.Log.{Log}
-use Rattle.speed_bin.specs.Marks.{is_in_range}
+use Rattle.speed_bin.specs.Marks.{stays_inside}
 use Rattle.speed_bin.specs.Rules.{rule_1, rule_2, rule_4, rule_5, rule_12}
 use Rattle.speed_bin.specs.Timing.{IsTiming}
 use Rattle.speed_bin.specs.declared.header.Header.{Header}
@@ -75,7 +75,7 @@ one_row_accepted = record {
 abbrev is_counted : Header → ℕ → Command → Log → Bool
 is_counted h clock command log =
     nat_lt clock (2 ^ 48)
-    && (is_in_range h command && (rule_1 clock log && (rule_2 h.timing clock command log && (rule_4 command log && (rule_5 command log && rule_12 h clock command log)))))
+    && (stays_inside h command && (rule_1 clock log && (rule_2 h.timing clock command log && (rule_4 command log && (rule_5 command log && rule_12 h clock command log)))))
 
 by_tests : (h : Header) (clock : ℕ) (command : Command) (log : Log) → IsInRange command → is_counted h clock command log ≡ true → MayCount h clock command log
 by_tests h clock command log inside tests =

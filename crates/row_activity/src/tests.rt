@@ -11,37 +11,12 @@ use crate::Activity;
 use bank_state::Banks;
 use command_words::{Bank, BankAddr, Command, Group, Row};
 use ddr_io::OutOfMemory;
-use speed_bin::{Header, RefreshMode, Settings, Timing, Version};
+use speed_bin::{Header, RefreshMode, Settings, TINY, Timing, Version};
 use std::alloc::Global;
 use std::test::Fail;
 
 // The bin `tiny`, with an alert window for two activations.
-const TIMING: Timing = Timing {
-    ncl: 6,
-    ncwl: 4,
-    nrcd: 3,
-    nrp: 4,
-    nras: 6,
-    nrc: 10,
-    nrrd_s: 2,
-    nrrd_l: 3,
-    nfaw: 10,
-    nccd_s: 8,
-    nccd_l: 10,
-    nccd_l_wr: 12,
-    nwtr_s: 2,
-    nwtr_l: 4,
-    nrtp: 3,
-    nwr: 5,
-    nrfc: 20,
-    nrfcsb: 12,
-    nrfm: 24,
-    nrfmsb: 16,
-    nrefi: 1000,
-    nabo: 13,
-    nmrd: 4,
-    necs: 14,
-};
+const TIMING: Timing = Timing { nabo: 13, ..TINY };
 
 const ONE_ROW: Settings = Settings {
     rows: 1,

@@ -19,7 +19,7 @@ use Rattle.deadlines.specs.Turns.{Takes, has_request}
 use Rattle.scheduler.specs.Board.{first_at}
 use Rattle.scheduler.specs.Controller.{banks_of, excused, none_wait}
 use Rattle.scheduler.proofs.First.{found, bank_is}
-use Rattle.scheduler.proofs.Tools.{both}
+use Rattle.speed_bin.proofs.Tests.{both}
 
 pub length-places : (log : List Step) → length (places log) ≡ length log
 length-places [] = refl

@@ -26,7 +26,7 @@ use Rattle.scheduler.specs.declared.choice.Class.TheVariants.{Column, Activate, 
 use Rattle.std.specs.List.{remove}
 use Rattle.scheduler.specs.declared.state.State.{State}
 use Rattle.scheduler.specs.declared.ledger.Ledger.{Ledger}
-use Rattle.scheduler.proofs.Spaced.{up_to_more}
+use Rattle.deadlines.proofs.Following.{up_more}
 use Rattle.scheduler.proofs.Tools.{none_failing}
 
 eleventh : (r w : Bool) (o : Option ℕ) → (r ≡ true → o ≡ None → ⊥) → (not r || (w || is_some o)) ≡ true
@@ -52,7 +52,7 @@ ledger_of c from until finished h offered idle log clock command id next queue r
       stands = s.stands;
       owed = s.owed;
       written = s.written;
-      later = up_to_more from c.ledger.from (places log) r.waited s.later;
+      later = up_more from c.ledger.from (places log) r.waited s.later;
     }
 
 pub suits_of : (laws : Laws) (c : State) (from until : ℕ) (finished : Bool) (h : Header) (offered : List Request) (idle : ℕ) (log : List Step) (clock : ℕ) (command : Command) (id : Option ℕ) (next : Option Task) (queue : List Waiting) → IsReady c from until finished h offered idle log clock command id next queue → Suits c.ledger h (places log) clock command

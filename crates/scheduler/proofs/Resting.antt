@@ -20,8 +20,9 @@ use Rattle.scheduler.specs.Laws.{Laws}
 use Rattle.scheduler.specs.Steps.{IsReadySoon, IsResting, with_from}
 use Rattle.scheduler.specs.declared.choice.Candidate.{Candidate}
 use Rattle.scheduler.specs.declared.state.State.{State}
-use Rattle.scheduler.proofs.Spaced.{up_to_more}
-use Rattle.scheduler.proofs.Tools.{fails_below, none_failing, joined}
+use Rattle.deadlines.proofs.Following.{up_more}
+use Rattle.speed_bin.proofs.Tests.{joined}
+use Rattle.scheduler.proofs.Tools.{fails_below, none_failing}
 use Rattle.scheduler.proofs.Parts.{length-places, at_least}
 use Rattle.scheduler.proofs.Offering.{soon_of}
 
@@ -76,7 +77,7 @@ holds_rested laws c h offered idle log r bound =
         stands = l.stands;
         owed = l.owed;
         written = l.written;
-        later = up_to_more c.ledger.from (max c.ledger.from c.until) (places log) (omega arith) l.later;
+        later = up_more c.ledger.from (max c.ledger.from c.until) (places log) (omega arith) l.later;
       };
       seen = seen_none c.alert (alert h (places log)) (max c.ledger.from c.until) r.awake.seen calm.no_alert;
       count = s.count;

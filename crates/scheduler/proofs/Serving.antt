@@ -31,8 +31,9 @@ use Rattle.scheduler.specs.declared.choice.Class.TheVariants.{Column, Activate, 
 use Rattle.scheduler.specs.declared.state.State.{State}
 use Rattle.scheduler.specs.declared.task.Errand.{Errand}
 use Rattle.scheduler.proofs.First.{none_found, get-inside, not_asked}
-use Rattle.scheduler.proofs.Spaced.{up_to_more}
-use Rattle.scheduler.proofs.Tools.{both, joined, all_below_at, fails_below, not_false}
+use Rattle.deadlines.proofs.Following.{up_more}
+use Rattle.speed_bin.proofs.Tests.{both, joined, all_below_at}
+use Rattle.scheduler.proofs.Tools.{fails_below, not_false}
 use Rattle.scheduler.proofs.Parts.{length-places, at_least, not_empty, some_long, hit_of, takes_of, column_is, column_covers_bank, column_prompt}
 use Rattle.scheduler.proofs.Offering.{soon_of, column_fitting}
 use Rattle.scheduler.proofs.Tasked.{column_plain, precharge_plain, tasked_after, still_covered, precharge_covers, command_covers, precharge_closes}
@@ -50,7 +51,7 @@ ledger_waited c h offered idle log errand r =
       stands = s.stands;
       owed = s.owed;
       written = s.written;
-      later = up_to_more c.ledger.from errand.start (places log) r.errand_is.late s.later;
+      later = up_more c.ledger.from errand.start (places log) r.errand_is.late s.later;
     }
 
 -- e0 is not far

@@ -1,9 +1,10 @@
 -- What the ledger says of a log.
-use Rattle.std.specs.Prelude.{◌≡◌, ℕ, ◌<◌, ◌≤◌, Bool, false, List, [], ◌∷◌, length, min, slice_index_or, ⊤}
+use Rattle.std.specs.Prelude.{◌≡◌, ℕ, ◌<◌, ◌≤◌, Bool, false, List, length, min, slice_index_or}
 use Rattle.command_words.specs.declared.command.Command.{Command}
 use Rattle.speed_bin.specs.Header.{IsAccepted}
 use Rattle.speed_bin.specs.Log.{Log}
 use Rattle.speed_bin.specs.declared.header.Header.{Header}
+use Rattle.deadlines.specs.Blocking.{AllUpTo}
 use Rattle.log_ledger.specs.Standing.{Follows, StandsFor as LogStandsFor}
 use Rattle.requests.specs.Owed.{owed, SparesOwed}
 use Rattle.scheduler.specs.declared.ledger.Ledger.{Ledger}
@@ -12,17 +13,12 @@ use Rattle.scheduler.specs.declared.ledger.Ledger.{Ledger}
 abbrev pub owes : List Bool → ℕ → Bool
 owes banks b = slice_index_or banks b false
 
--- no clock of the log is above this one
-abbrev pub UpTo : ℕ → Log → Type 0
-UpTo s [] = ⊤
-UpTo s (place ∷ log) = (place.clock ≤ s) × UpTo s log
-
 pub record StandsFor (ledger : Ledger) (h : Header) (log : Log) : Type 0 where
   pub accepted : IsAccepted h
   pub stands : LogStandsFor ledger.log h log
   pub owed : (b : ℕ) → b < 32 → owes ledger.owed b ≡ owed b log
   pub written : ledger.written ≡ min 8 (length log)
-  pub later : UpTo ledger.from log
+  pub later : AllUpTo ledger.from log
 
 -- the command may follow the log at this clock, as far as the ledger is concerned
 pub record Suits (ledger : Ledger) (h : Header) (log : Log) (clock : ℕ) (command : Command) : Type 0 where

@@ -6,20 +6,12 @@ use Rattle.speed_bin.specs.Document.{checks_of, window_fits, thresholds_fit, rou
 use Rattle.speed_bin.specs.Header.{Checks}
 use Rattle.speed_bin.specs.Rules.{first_failing}
 use Rattle.speed_bin.specs.declared.header.Header.{Header}
-
-abbrev AllHold : List Bool → Type 0
-AllHold [] = Unit {0}
-AllHold (test ∷ tests) = (test ≡ true) × AllHold tests
-
-all_hold : (n : ℕ) (tests : List Bool) → first_failing n tests ≡ None → AllHold tests
-all_hold n [] none = tt
-all_hold n (true ∷ tests) none = (refl, all_hold (suc n) tests none)
-all_hold n (false ∷ tests) none = cc
+use Rattle.speed_bin.proofs.Audits.{all_pass}
 
 pub checks_pass : (h : Header) → first_failing 1 (checks_of h) ≡ None → Checks h
 unfolding checks_of window_fits thresholds_fit round_within_half
 checks_pass h none =
-    let (one, from_2) = all_hold 1 (checks_of h) none in
+    let (one, from_2) = all_pass 1 (checks_of h) none in
     let (two, from_3) = from_2 in
     let (three, from_4) = from_3 in
     let (four, from_5) = from_4 in

@@ -11,7 +11,7 @@ use Rattle.speed_bin.specs.Header.{IsAccepted, bound}
 use Rattle.speed_bin.specs.Marks.{Keeps, RowsInRange, BanksInRange}
 use Rattle.speed_bin.specs.Counts.{acts_opened, peak}
 use Rattle.std.specs.List.{list_all}
-use Rattle.speed_bin.specs.Marks.{is_in_range}
+use Rattle.speed_bin.specs.Marks.{stays_inside}
 use Rattle.speed_bin.proofs.Tests.{both}
 use Rattle.speed_bin.proofs.Bounds.{bound_lem}
 
@@ -19,7 +19,7 @@ abbrev pub AllTrue : List Bool → Type 0
 AllTrue [] = Unit {0}
 AllTrue (test ∷ tests) = (test ≡ true) × AllTrue tests
 
-all_pass : (n : ℕ) (tests : List Bool) → first_failing n tests ≡ None → AllTrue tests
+pub all_pass : (n : ℕ) (tests : List Bool) → first_failing n tests ≡ None → AllTrue tests
 all_pass n [] h = tt
 all_pass n (true ∷ tests) h = (refl, all_pass (suc n) tests h)
 all_pass n (false ∷ tests) h = absurd (cc)
@@ -29,9 +29,9 @@ unbroken (Some breach) place fails h = absurd (cc)
 unbroken None place None h = (refl, refl)
 unbroken None place (Some number) h = absurd (cc)
 
-pub rows_from_test : (h : Header) (log : Log) → list_all (λ place. is_in_range h place.command) log ≡ true → RowsInRange h log
+pub rows_from_test : (h : Header) (log : Log) → list_all (λ place. stays_inside h place.command) log ≡ true → RowsInRange h log
 rows_from_test h [] e = tt
-rows_from_test h (place ∷ log) e = let p = both (is_in_range h place.command) _ e in (rows_from_test h log p.1, p.0)
+rows_from_test h (place ∷ log) e = let p = both (stays_inside h place.command) _ e in (rows_from_test h log p.1, p.0)
 
 -- a log without a verdict keeps the five rules
 pub fine_keeps : (h : Header) (log : Log) → RowsInRange h log → verdict h log ≡ None → Keeps h log

@@ -10,7 +10,7 @@ use Rattle.speed_bin.specs.Log.{Issued, Log, open_at}
 use Rattle.speed_bin.specs.Alert.{closes, closes_some, alert}
 use Rattle.speed_bin.specs.Gap.{Entry, greatest, meet, gap_table, gap}
 use Rattle.speed_bin.specs.Rules.{rule_2, rule_4, rule_5, rule_12, until, after}
-use Rattle.speed_bin.specs.Marks.{is_in_range}
+use Rattle.speed_bin.specs.Marks.{stays_inside}
 use Rattle.speed_bin.proofs.Tests.{both, joined, when_not, none_from_test, any_below_at, any_below_none, all_below_at}
 
 -- ---- An effect on a bank tells the kind of the command
@@ -60,7 +60,7 @@ act_closes_none b (Act bank row) opened h = go (bank_number bank == b)
 act_closes_none b _ opened h = absurd (cc)
 
 pub act_closes_no_bank : (c : Command) (log : Log) → is_act c ≡ true → closes_some c log ≡ false
-act_closes_no_bank c log h = any_below_none 32 (λ b. closes (effect b c) (open_at b log)) (λ b. act_closes_none b c (open_at b log) h)
+act_closes_no_bank c log h = any_below_none 32 (λ b. closes (effect b c) (open_at b log)) (λ b low. act_closes_none b c (open_at b log) h)
 
 pub closes_bank : (b r : ℕ) (c : Command) (log : Log) → b < 32 → effect b c ≡ Closes → open_at b log ≡ Some r → closes_some c log ≡ true
 closes_bank b r c log low e o = any_below_at 32 (λ i. closes (effect i c) (open_at i log)) b low (rw (e, o) refl)
@@ -120,7 +120,7 @@ rule_12_opens h a clock c log act raised k =
     let u : until clock (after (alert h log) h.timing.nabo) ≡ true = when_not _ _ k act in
     leb-true _ _ (rw raised at u)
 
-pub in_range_opens : (h : Header) (b r : ℕ) (c : Command) → effect b c ≡ Opens r → is_in_range h c ≡ true → r < h.settings.rows
+pub in_range_opens : (h : Header) (b r : ℕ) (c : Command) → effect b c ≡ Opens r → stays_inside h c ≡ true → r < h.settings.rows
 in_range_opens h b r (Act bank row) e k =
     let same : row ≡ r = go (bank_number bank == b) e in
     subst (λ (i : ℕ). i < h.settings.rows) same (ltb-true _ _ (both _ _ k).0)

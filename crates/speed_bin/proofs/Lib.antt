@@ -29,3 +29,4 @@ mod Greatest
 mod Ranges
 mod Accepted
 mod Stated
+mod StatedAccepted

@@ -15,7 +15,7 @@ use Rattle.speed_bin.specs.Marks.{RowsInRange, opens_inside}
 use Rattle.speed_bin.specs.Page.{keeps_page, last_row, last_row_after, reopens}
 use Rattle.speed_bin.specs.Rules.{rule_5, is_wanted, all_closed}
 use Rattle.speed_bin.specs.Present.{banks_of, has_bank, HasBanks}
-use Rattle.speed_bin.proofs.Tests.{both, joined, or_right, any_below_at, any_below_none}
+use Rattle.speed_bin.proofs.Tests.{both, joined, or_right, same_tests, any_below_at, any_below_none, any_below_some}
 use Rattle.speed_bin.proofs.Splits.{below_or_not}
 use Rattle.speed_bin.proofs.Rows.{unused_counts}
 use Rattle.std.proofs.lemmas.Bool.Decides.{nat_tests}
@@ -193,7 +193,7 @@ pub is_hot_agrees : (h : Header) (groups k : ℕ) (log : Log) → 1 ≤ h.settin
 is_hot_agrees h groups k log some is has =
     any_agrees groups k (λ b. any_below h.settings.rows (λ row. nat_le h.settings.ath (cnt h b row log))) is
     (λ b high. any_below_none h.settings.rows (λ row. nat_le h.settings.ath (cnt h b row log))
-    (λ row. ap (nat_le h.settings.ath) (absent_counts h groups b log high has row) ∙ none_reached h.settings.ath some))
+    (λ row low. ap (nat_le h.settings.ath) (absent_counts h groups b log high has row) ∙ none_reached h.settings.ath some))
 
 and_false : (x y : Bool) → y ≡ false → (x && y) ≡ false
 and_false true y h = h
@@ -226,21 +226,6 @@ covers_below groups i (Mrw write) high low own = refl
 covers_below groups i Ecs high low own = refl
 covers_below groups i Nop high low own = own
 
-found_below : (n : ℕ) (test : ℕ → Bool) → any_below n test ≡ true → (i : ℕ) × (i < n) × (test i ≡ true)
-unfolding any_below
-found_below zero test h = absurd cc
-found_below (suc n) test h = go (test n) refl h (found_below n test)
-  where
-    go : (x : Bool) → test n ≡ x → (x || any_below n test) ≡ true → (any_below n test ≡ true → (i : ℕ) × (i < n) × (test i ≡ true)) → (i : ℕ) × (i < suc n) × (test i ≡ true)
-    go true e k ih = (n, omega arith, e)
-    go false e k ih = let w : (i : ℕ) × (i < n) × (test i ≡ true) = ih k in (w.0, omega (arith, w.1), w.2)
-
-same_tests : (x y : Bool) → (x ≡ true → y ≡ true) → (y ≡ true → x ≡ true) → x ≡ y
-same_tests true true h k = refl
-same_tests true false h k = sym (h refl)
-same_tests false true h k = k refl
-same_tests false false h k = refl
-
 pub meet_agrees : (groups k : ℕ) (first second : Command) → 1 ≤ groups → Absent groups k → has_bank groups first ≡ true → has_bank groups second ≡ true
     → meet first second ≡ any_below (banks_of groups) (λ b. covers first b && covers second b)
 meet_agrees groups k first second some is one two = same_tests (meet first second) (any_below (banks_of groups) (λ b. covers first b && covers second b)) down up
@@ -249,7 +234,7 @@ meet_agrees groups k first second some is one two = same_tests (meet first secon
     test b = covers first b && covers second b
 
     up : any_below (banks_of groups) (λ b. covers first b && covers second b) ≡ true → meet first second ≡ true
-    up h = let w = found_below (banks_of groups) (λ b. covers first b && covers second b) h in
+    up h = let w = any_below_some (banks_of groups) (λ b. covers first b && covers second b) h in
         any_below_at 32 (λ b. covers first b && covers second b) w.0 (let low = w.1 in omega (arith, low, is)) w.2
 
     at : (i : ℕ) → (covers first i && covers second i) ≡ true → (i < banks_of groups) ⊎ (banks_of groups ≤ i) → any_below (banks_of groups) (λ b. covers first b && covers second b) ≡ true
@@ -260,7 +245,7 @@ meet_agrees groups k first second some is one two = same_tests (meet first secon
         (joined (covers first (i % 4)) (covers second (i % 4)) (covers_below groups i first high one p.0) (covers_below groups i second high two p.1))
 
     down : meet first second ≡ true → any_below (banks_of groups) (λ b. covers first b && covers second b) ≡ true
-    down h = let w = found_below 32 (λ b. covers first b && covers second b) h in at w.0 w.2 (below_or_not w.0 (banks_of groups))
+    down h = let w = any_below_some 32 (λ b. covers first b && covers second b) h in at w.0 w.2 (below_or_not w.0 (banks_of groups))
 
 -- ---- Open page
 

@@ -31,6 +31,13 @@ pub true_or_false : (x : Bool) → (x ≡ true) ⊎ (x ≡ false)
 true_or_false true = inl refl
 true_or_false false = inr refl
 
+-- two tests that hold together are one
+pub same_tests : (x y : Bool) → (x ≡ true → y ≡ true) → (y ≡ true → x ≡ true) → x ≡ y
+same_tests true true h k = refl
+same_tests true false h k = sym (h refl)
+same_tests false true h k = k refl
+same_tests false false h k = refl
+
 pub none_from_test : (o : Option ℕ) → is_none o ≡ true → o ≡ None
 none_from_test None h = refl
 none_from_test (Some x) h = cc
@@ -44,10 +51,30 @@ any_below_at (suc n) test i low h = go (last_or_below i n low) (any_below_at n t
     go (inl e) ih = or_left (test n) (any_below n test) (ap test (sym e) ∙ h)
     go (inr below) ih = or_right (test n) (any_below n test) (ih below h)
 
-pub any_below_none : (n : ℕ) (test : ℕ → Bool) → ((i : ℕ) → test i ≡ false) → any_below n test ≡ false
+pub any_below_none : (n : ℕ) (test : ℕ → Bool) → ((i : ℕ) → i < n → test i ≡ false) → any_below n test ≡ false
 unfolding any_below
 any_below_none zero test h = refl
-any_below_none (suc n) test h = let e = h n in rw e (any_below_none n test h)
+any_below_none (suc n) test h =
+    let here = h n (omega arith) in
+    rw here (any_below_none n test (λ i low. h i (omega arith)))
+
+-- where some number passes, there is one
+pub any_below_some : (n : ℕ) (test : ℕ → Bool) → any_below n test ≡ true → (i : ℕ) × (i < n) × (test i ≡ true)
+unfolding any_below
+any_below_some zero test h = absurd cc
+any_below_some (suc n) test h = go (test n) refl h (any_below_some n test)
+  where
+    go : (x : Bool) → test n ≡ x → (x || any_below n test) ≡ true → (any_below n test ≡ true → (i : ℕ) × (i < n) × (test i ≡ true)) → (i : ℕ) × (i < suc n) × (test i ≡ true)
+    go true e k ih = (n, omega arith, e)
+    go false e k ih = let w : (i : ℕ) × (i < n) × (test i ≡ true) = ih k in (w.0, omega (arith, w.1), w.2)
+
+pub any_below_same : (n : ℕ) (test other : ℕ → Bool) → ((i : ℕ) → i < n → test i ≡ other i) → any_below n test ≡ any_below n other
+unfolding any_below
+any_below_same zero test other h = refl
+any_below_same (suc n) test other h =
+    let ih = any_below_same n test other (λ i low. h i (omega arith)) in
+    let e = h n (omega arith) in
+    rw (e, ih) refl
 
 pub all_below_at : (n : ℕ) (test : ℕ → Bool) (i : ℕ) → all_below n test ≡ true → i < n → test i ≡ true
 unfolding all_below

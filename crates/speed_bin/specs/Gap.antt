@@ -21,9 +21,10 @@ greatest (entry ∷ entries) = if entry.applies then max entry.clocks (greatest 
 abbrev pub meet : Command → Command → Bool
 meet first second = any_below 32 (λ b. covers first b && covers second b)
 
--- the table, in its order; "same bank" of two commands that name one bank each is that they meet
-abbrev pub gap_table : Timing → Command → Command → List Entry
-gap_table t first second = let together = meet first second in let same_group = group_of first == group_of second in
+-- the table, in its order, of two commands of which it is known whether they meet; "same bank" of two commands that name
+-- one bank each is that they do
+abbrev pub gap_table_where : Bool → Timing → Command → Command → List Entry
+gap_table_where together t first second = let same_group = group_of first == group_of second in
     record { applies = is_act first || (is_rd first || (is_wr first || is_mrw first)); clocks = 2 }
     ∷ record { applies = true; clocks = 1 }
     ∷ record { applies = is_act first && is_act second; clocks = t.nrrd_s }
@@ -48,6 +49,9 @@ gap_table t first second = let together = meet first second in let same_group = 
     ∷ record { applies = is_scrub first && not (is_nop second); clocks = t.necs }
     ∷ record { applies = is_mrw first && not (is_nop second); clocks = t.nmrd }
     ∷ []
+
+abbrev pub gap_table : Timing → Command → Command → List Entry
+gap_table t first second = gap_table_where (meet first second) t first second
 
 -- how many clocks the second command stands behind the first, at the least
 abbrev pub gap : Timing → Command → Command → ℕ

@@ -22,13 +22,13 @@ opens_inside h (Act bank row) = nat_lt row h.settings.rows
 opens_inside h _ = true
 
 -- and a command that names one bank names one of the header's
-abbrev pub is_in_range : Header → Command → Bool
-is_in_range h command = opens_inside h command && has_bank h.version.groups command
+abbrev pub stays_inside : Header → Command → Bool
+stays_inside h command = opens_inside h command && has_bank h.version.groups command
 
 -- each command of the log is within the header's ranges
 abbrev pub RowsInRange : Header → Log → Type 0
 RowsInRange h [] = ⊤
-RowsInRange h (place ∷ log) = RowsInRange h log × IsTrue (is_in_range h place.command)
+RowsInRange h (place ∷ log) = RowsInRange h log × IsTrue (stays_inside h place.command)
 
 -- each ACT of the log opens a row of one of the 32 banks
 abbrev pub BanksInRange : Log → Type 0
@@ -37,7 +37,7 @@ BanksInRange (place ∷ log) = BanksInRange log × ((bank : Bank) (row : ℕ) �
 
 -- a place that keeps rules 1, 2, 4, 5 and 12
 pub record KeepsAt (h : Header) (place : Issued) (log : Log) : Type 0 where
-  pub in_range : IsTrue (is_in_range h place.command)
+  pub in_range : IsTrue (stays_inside h place.command)
   pub first : IsTrue (rule_1 place.clock log)
   pub second : IsTrue (rule_2 h.timing place.clock place.command log)
   pub fourth : IsTrue (rule_4 place.command log)

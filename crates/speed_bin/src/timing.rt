@@ -67,8 +67,8 @@ pub fn named(name: &str) -> Option<Timing>
     }
 }
 
-// DDR5-4800 with per-row activation counting, at 416 ps a clock.
-const PRAC_4800: Timing = Timing {
+/// DDR5-4800 with per-row activation counting, at 416 ps a clock.
+pub const PRAC_4800: Timing = Timing {
     ncl: 40,
     ncwl: 38,
     nrcd: 39,
@@ -95,8 +95,8 @@ const PRAC_4800: Timing = Timing {
     necs: 264,
 };
 
-// Small numbers, for examples and tests.
-const TINY: Timing = Timing {
+/// Small numbers, for examples and tests.
+pub const TINY: Timing = Timing {
     ncl: 6,
     ncwl: 4,
     nrcd: 3,

@@ -10,16 +10,9 @@ use Rattle.command_words.specs.Kinds.{is_act, is_rd, is_wr, is_precharge, is_ref
 use Rattle.speed_bin.specs.Log.{Log, Issued}
 use Rattle.speed_bin.specs.Rules.{rule_2}
 use Rattle.speed_bin.specs.declared.timing.Timing.{Timing}
+use Rattle.speed_bin.proofs.Tests.{both, joined}
 use Rattle.timing_rules.specs.Kept.{is_any, closes_one, closes_address, closes_all}
 use Rattle.timing_rules.specs.Rows.{Row, is_clear, IsClear, AllClear, RowsClear, is_wide}
-
-both : (x y : Bool) → (x && y) ≡ true → (x ≡ true) × (y ≡ true)
-both true y h = (refl, h)
-both false y h = (cc, cc)
-
-joined : (x y : Bool) → x ≡ true → y ≡ true → (x && y) ≡ true
-joined true y h k = k
-joined false y h k = cc
 
 -- ---- From a bound on each place to each row
 

@@ -10,6 +10,7 @@ use Rattle.speed_bin.specs.Log.{Log, Issued}
 use Rattle.speed_bin.specs.Rules.{MayFollow, rule_1, rule_2, rule_3, first_failing}
 use Rattle.speed_bin.specs.Timing.{IsTiming}
 use Rattle.speed_bin.specs.declared.timing.Timing.{Timing}
+use Rattle.speed_bin.proofs.Tests.{joined}
 use Rattle.timing_rules.specs.Rows.{AllClear, RowsClear, bus_rows, act_rows, rd_rows, wr_rows, precharge_rows, busy_rows}
 use Rattle.timing_rules.specs.Spaced.{AllSmall, spacing_rules}
 use Rattle.timing_rules.proofs.Clear.{rule_2_apart, rule_2_together}
@@ -121,10 +122,6 @@ gap_below t first second h = greatest_below (gap_table t first second) (omega ar
 
 late_enough : (c n : ℕ) → c < 2 ^ 48 → n ≤ 196615 → nat_le (c + n) (2 ^ 48 + 2 ^ 18) ≡ true
 late_enough c n h k = le-leb (c + n) (2 ^ 48 + 2 ^ 18) (omega arith)
-
-joined : (x y : Bool) → x ≡ true → y ≡ true → (x && y) ≡ true
-joined true y h k = k
-joined false y h k = cc
 
 gaps_late : (g : Command → ℕ) (log : Log) → ((first : Command) → g first ≤ 196615) → AllSmall log → IsTrue (list_all (λ (p : Issued). nat_le (p.clock + g p.command) (2 ^ 48 + 2 ^ 18)) log)
 gaps_late g [] h k = refl

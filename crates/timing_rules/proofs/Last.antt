@@ -6,17 +6,10 @@ use Rattle.command_words.specs.declared.command.Command.{Command}
 use Rattle.speed_bin.specs.Gap.{gap}
 use Rattle.speed_bin.specs.Log.{Log, Issued}
 use Rattle.speed_bin.specs.declared.timing.Timing.{Timing}
+use Rattle.speed_bin.proofs.Tests.{both, joined}
 use Rattle.timing_rules.specs.Spaced.{IsSpaced, AllSmall}
 use Rattle.timing_rules.specs.Kept.{last_of, behind, IsSmall}
 use Rattle.timing_rules.specs.Rows.{Row, is_clear, IsClear, AllClear}
-
-both : (x y : Bool) → (x && y) ≡ true → (x ≡ true) × (y ≡ true)
-both true y h = (refl, h)
-both false y h = (cc, cc)
-
-joined : (x y : Bool) → x ≡ true → y ≡ true → (x && y) ≡ true
-joined true y h k = k
-joined false y h k = cc
 
 -- ---- The last place is small
 

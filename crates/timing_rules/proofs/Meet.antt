@@ -6,56 +6,11 @@ use Rattle.command_words.specs.declared.command.Command.{Command}
 use Rattle.command_words.specs.declared.command.Command.TheVariants.{PreAb}
 use Rattle.speed_bin.specs.Below.{any_below}
 use Rattle.speed_bin.specs.Gap.{meet}
+use Rattle.speed_bin.proofs.Tests.{both, joined, same_tests, any_below_at, any_below_none, any_below_same, any_below_some}
 use Rattle.timing_rules.specs.declared.scope.Scope.{Scope}
 use Rattle.timing_rules.specs.declared.scope.Scope.TheVariants.{Bank, Address, All, Nothing}
 use Rattle.timing_rules.specs.Kept.{touches, closes_all}
 use Rattle.timing_rules.specs.Scope.{is_within, overlap_of, IsScope}
-
-same_or_below : (i n : ℕ) → i < suc n → (i ≡ n) ⊎ (i < n)
-same_or_below i n h = grind arith
-
-or_right : (x y : Bool) → y ≡ true → (x || y) ≡ true
-or_right true y h = refl
-or_right false y h = h
-
-or_left : (x y : Bool) → x ≡ true → (x || y) ≡ true
-or_left true y h = refl
-or_left false y h = cc
-
-both : (x y : Bool) → (x && y) ≡ true → (x ≡ true) × (y ≡ true)
-both true y h = (refl, h)
-both false y h = (cc, cc)
-
-joined : (x y : Bool) → x ≡ true → y ≡ true → (x && y) ≡ true
-joined true y h k = k
-joined false y h k = cc
-
--- two tests that hold together are one
-same_tests : (x y : Bool) → (x ≡ true → y ≡ true) → (y ≡ true → x ≡ true) → x ≡ y
-same_tests true true h k = refl
-same_tests true false h k = sym (h refl)
-same_tests false true h k = k refl
-same_tests false false h k = refl
-
--- a test that holds somewhere is found
-found : (n : ℕ) (test : ℕ → Bool) (i : ℕ) → i < n → test i ≡ true → any_below n test ≡ true
-unfolding any_below
-found zero test i low h = absurd (omega arith)
-found (suc n) test i low h = go (same_or_below i n low) (found n test i)
-  where
-    go : (i ≡ n) ⊎ (i < n) → (i < n → test i ≡ true → any_below n test ≡ true) → (test n || any_below n test) ≡ true
-    go (inl e) ih = or_left (test n) (any_below n test) (ap test (sym e) ∙ h)
-    go (inr below) ih = or_right (test n) (any_below n test) (ih below h)
-
--- what is found is somewhere
-finds : (n : ℕ) (test : ℕ → Bool) → any_below n test ≡ true → (i : ℕ) × (i < n) × (test i ≡ true)
-unfolding any_below
-finds zero test h = absurd cc
-finds (suc n) test h = go (test n) refl h (finds n test)
-  where
-    go : (x : Bool) → test n ≡ x → (x || any_below n test) ≡ true → (any_below n test ≡ true → (i : ℕ) × (i < n) × (test i ≡ true)) → (i : ℕ) × (i < suc n) × (test i ≡ true)
-    go true e k ih = (n, omega arith, e)
-    go false e k ih = let w : (i : ℕ) × (i < n) × (test i ≡ true) = ih k in (w.0, omega (arith, w.1), w.2)
 
 within_both : Scope → Scope → ℕ → Bool
 within_both first second b = is_within first b && is_within second b
@@ -102,41 +57,31 @@ overlap_at Nothing second h k e = absurd cc
 pub meet_by_scopes : (first second : Command) (s r : Scope) → IsScope s → IsScope r → ((b : ℕ) → is_within s b ≡ covers first b) → ((b : ℕ) → is_within r b ≡ covers second b) → overlap_of s r ≡ meet first second
 meet_by_scopes first second s r hs hr es er = same_tests (overlap_of s r) (meet first second)
     (λ e. let w : Common s r = overlap_at s r hs hr e in
-    found 32 (λ b. covers first b && covers second b) w.0 w.1 (joined (covers first w.0) (covers second w.0) (sym (es w.0) ∙ w.2) (sym (er w.0) ∙ w.3)))
-    (λ e. let w = finds 32 (λ b. covers first b && covers second b) e in
+    any_below_at 32 (λ b. covers first b && covers second b) w.0 w.1 (joined (covers first w.0) (covers second w.0) (sym (es w.0) ∙ w.2) (sym (er w.0) ∙ w.3)))
+    (λ e. let w = any_below_some 32 (λ b. covers first b && covers second b) e in
     let p = both (covers first w.0) (covers second w.0) w.2 in
     overlap_from s r w.0 hs hr (es w.0 ∙ p.0) (er w.0 ∙ p.1))
 
 -- the same of one command and a scope
 pub touches_by_scope : (command : Command) (own scope : Scope) → IsScope own → IsScope scope → ((b : ℕ) → covers command b ≡ is_within own b) → touches scope command ≡ overlap_of own scope
 touches_by_scope command own scope h k e = same_tests (touches scope command) (overlap_of own scope)
-    (λ t. let w = finds 32 (λ b. covers command b && is_within scope b) t in
+    (λ t. let w = any_below_some 32 (λ b. covers command b && is_within scope b) t in
     let p = both (covers command w.0) (is_within scope w.0) w.2 in
     overlap_from own scope w.0 h k (sym (e w.0) ∙ p.0) p.1)
     (λ o. let w : Common own scope = overlap_at own scope h k o in
-    found 32 (λ b. covers command b && is_within scope b) w.0 w.1 (joined (covers command w.0) (is_within scope w.0) (e w.0 ∙ w.2) w.3))
-
-any_below_same : (n : ℕ) (p q : ℕ → Bool) → ((b : ℕ) → p b ≡ q b) → any_below n p ≡ any_below n q
-unfolding any_below
-any_below_same zero p q h = refl
-any_below_same (suc n) p q h = ap (λ x. x || any_below n p) (h n) ∙ ap (λ x. q n || x) (any_below_same n p q h)
+    any_below_at 32 (λ b. covers command b && is_within scope b) w.0 w.1 (joined (covers command w.0) (is_within scope w.0) (e w.0 ∙ w.2) w.3))
 
 -- to meet a command is to touch its scope
 pub meet_touches : (first second : Command) (scope : Scope) → ((b : ℕ) → is_within scope b ≡ covers second b) → meet first second ≡ touches scope first
-meet_touches first second scope e = any_below_same 32 (λ b. covers first b && covers second b) (λ b. covers first b && is_within scope b) (λ b. ap (λ x. covers first b && x) (sym (e b)))
+meet_touches first second scope e = any_below_same 32 (λ b. covers first b && covers second b) (λ b. covers first b && is_within scope b) (λ b low. ap (λ x. covers first b && x) (sym (e b)))
 
 and_false : (b : Bool) → (b && false) ≡ false
 and_false true = refl
 and_false false = refl
 
 -- nothing touches no bank
-none_below : (n : ℕ) (p : ℕ → Bool) → any_below n (λ b. p b && false) ≡ false
-unfolding any_below
-none_below zero p = refl
-none_below (suc n) p = ap (λ x. x || any_below n (λ b. p b && false)) (and_false (p n)) ∙ none_below n p
-
 pub touches_nothing : (command : Command) → touches Nothing command ≡ false
-touches_nothing command = none_below 32 (λ b. covers command b)
+touches_nothing command = any_below_none 32 (λ b. covers command b && false) (λ b low. and_false (covers command b))
 
 -- what covers every bank touches each scope but the empty one
 pub touches_each : (command : Command) (scope : Scope) → IsScope scope → ((b : ℕ) → covers command b ≡ true) → touches scope command ≡ overlap_of All scope

@@ -8,12 +8,7 @@ use Rattle.command_words.specs.Kinds.{is_act}
 use Rattle.speed_bin.specs.Log.{Log, Issued}
 use Rattle.speed_bin.specs.Rules.{rule_1, rule_2, rule_3}
 use Rattle.speed_bin.specs.declared.timing.Timing.{Timing}
-
--- ---- Tests
-
-both : (x y : Bool) → (x && y) ≡ true → (x ≡ true) × (y ≡ true)
-both true y h = (refl, h)
-both false y h = (cc, cc)
+use Rattle.speed_bin.proofs.Tests.{both}
 
 -- ---- Rule 1
 

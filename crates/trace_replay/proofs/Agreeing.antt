@@ -4,7 +4,6 @@ use Rattle.std.proofs.Math.Bridge.{le_prop}
 use Rattle.std.proofs.Math.Logic.{∥∥₁_elim, ∥∥₁_map}
 use Rattle.requests.proofs.Oldest.{holds}
 use Rattle.speed_bin.proofs.Tests.{both, joined}
-use Rattle.std.proofs.lemmas.Bool.Decides.{nat_tests}
 use Rattle.std.specs.Borrow.{Bor}
 use Rattle.command_words.specs.Command.{bank_number, IsInRange}
 use Rattle.command_words.specs.Words.{Spells}
@@ -14,7 +13,7 @@ use Rattle.command_words.specs.declared.words.Words.{Words}
 use Rattle.speed_bin.specs.Alert.{alert}
 use Rattle.command_words.specs.Kinds.{is_wr}
 use Rattle.speed_bin.specs.Log.{Log}
-use Rattle.speed_bin.specs.Marks.{is_bank, is_in_range}
+use Rattle.speed_bin.specs.Marks.{is_bank, stays_inside}
 use Rattle.speed_bin.specs.Rules.{all_closed, broken, broken_at_end}
 use Rattle.speed_bin.specs.declared.header.Header.{Header}
 use Rattle.requests.specs.Choice.{IsChosen, IsOldestRow, IsPrompt}
@@ -82,7 +81,7 @@ some_bank : (h : Header) (ws : List Waiting) (b : ℕ) (o : Option Waiting) → 
 some_bank h ws b None own e some = absurd cc
 some_bank h ws b (Some w) own e some = own_bank h ws b w own e
 
-row_inside : (h : Header) (ws : List Waiting) (log : Log) (clock : ℕ) (command : Command) (id : Option ℕ) → ((b row : ℕ) → IsOldestRow ws b row → row < h.settings.rows) → OwnBanks h ws → IsChosen h ws log clock command id → IsTrue (is_in_range h command)
+row_inside : (h : Header) (ws : List Waiting) (log : Log) (clock : ℕ) (command : Command) (id : Option ℕ) → ((b row : ℕ) → IsOldestRow ws b row → row < h.settings.rows) → OwnBanks h ws → IsChosen h ws log clock command id → IsTrue (stays_inside h command)
 row_inside h ws log clock (Act bank row) id inside own chosen =
     joined (nat_lt row h.settings.rows) (is_bank h bank) (lt-ltb row h.settings.rows (inside _ row chosen.0)) (own_bank h ws (bank_number bank) chosen.0.request own chosen.0.oldest_of)
 row_inside h ws log clock (Rd bank column) id inside own chosen = hit_bank h ws (bank_number bank) _ chosen.request own chosen.oldest_hit

@@ -1,5 +1,5 @@
 -- The bytes of a report, from the opening on: a started one, and one whose run is finished.
-use Rattle.std.proofs.Common.{◌≡◌, ◌∙◌, ℕ, inl, inr, Option, Some, None, is_some, List, [], ◌∷◌, ◌++◌, refl, sym, ap, subst, arith}
+use Rattle.std.proofs.Common.{◌≡◌, ◌∙◌, ℕ, inl, inr, Option, Some, None, is_some, List, [], ◌∷◌, ◌++◌, refl, sym, ap, subst}
 use Rattle.std.specs.List.{flat_map}
 use Rattle.std.specs.Io.KnownBytes.{Appends}
 use Rattle.std.proofs.KnownBytes.{Appends-trans, Appends-nil}
@@ -32,6 +32,7 @@ use Rattle.trace_replay.specs.declared.progress.Ahead.TheVariants.{Unknown, Wait
 use Rattle.trace_replay.specs.declared.progress.Progress.{Progress}
 use Rattle.ddr_text.specs.declared.stop.Stop.{Stop}
 use Rattle.ddr_text.specs.declared.stop.Stop.TheVariants.{ReadFault, WriteFault, OutOfMemory}
+use Rattle.ddr_text.proofs.Outcomes.{none-left}
 use Rattle.ddr_text.proofs.Prefixes.{no-prefix, prefix-behind, prefix-longer}
 use Rattle.trace_replay.proofs.LoopTrace.{LineLaws, no-lines, within-whole}
 
@@ -143,11 +144,6 @@ traced-whole g trace End None left e k = tt
 traced-whole g trace End (Some bytes) left e k = k.0
 traced-whole g trace (Refused reason) None left e k = tt
 traced-whole g trace (Refused reason) (Some bytes) left e k = k
-
-none-left : (held : List ℕ) (left : Option (List ℕ)) → next_bytes held left ≡ Some [] → left ≡ Some []
-none-left held None e = cc
-none-left [] (Some bytes) e = e
-none-left (byte ∷ held) (Some bytes) e = let no : byte ∷ (held ++ bytes) ≡ [] = cc in cc
 
 used-up : (g : Shape) (trace : List TraceLine) (ahead : Ahead) (start : Option (List ℕ)) (held : List ℕ) (left : Option (List ℕ)) → following ahead ≡ Ended → IsRead g trace ahead start (next_bytes held left) → reason_in ahead ≡ None → IsUsedUp start left
 used-up g trace Unknown start held left e k none = cc

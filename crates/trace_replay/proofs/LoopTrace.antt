@@ -10,6 +10,7 @@ use Rattle.ddr_text.specs.Opening.{is_feed, parts_of, is_long}
 use Rattle.ddr_text.specs.declared.lines.LineFault.{LineFault}
 use Rattle.ddr_text.specs.declared.lines.TraceLine.{TraceLine}
 use Rattle.ddr_text.specs.declared.lines.TraceLine.TheVariants.{Read, Write, Flip, Idle}
+use Rattle.ddr_text.proofs.CleanParts.{first-part}
 use Rattle.reports.specs.Barriers.{idle_clocks}
 use Rattle.reports.specs.Delivered.{IsInside, AreInside}
 use Rattle.trace_replay.specs.Job.{MOST, Traced, IsTrace, clocks_of, trace_from, trace_of, with_part, if_read, is_full, continued, at_end}
@@ -123,15 +124,6 @@ record Cut (bytes more : List ℕ) : Type 0 where
   front : slice_split is_feed bytes ≡ parts ++ last ∷ []
   whole : slice_split is_feed (bytes ++ more) ≡ parts ++ other ∷ rest
 
-some-part : (xs : List ℕ) → (first : List ℕ) × (rest : List (List ℕ)) × (slice_split is_feed xs ≡ first ∷ rest)
-some-part [] = ([], [], refl)
-some-part (x ∷ xs) = go (is_feed x) refl (some-part xs)
-  where
-    go : (b : Bool) → is_feed x ≡ b → ((first : List ℕ) × (rest : List (List ℕ)) × (slice_split is_feed xs ≡ first ∷ rest))
-        → (first : List ℕ) × (rest : List (List ℕ)) × (slice_split is_feed (x ∷ xs) ≡ first ∷ rest)
-    go true e more = ([], slice_split is_feed xs, slice_split-cons_yes is_feed x xs e)
-    go false e more = (x ∷ more.0, more.1, slice_split-cons_no is_feed x xs e ∙ ap (onto_first x) more.2)
-
 cut-onto : (x : ℕ) (bytes more : List ℕ) (parts : List (List ℕ)) (last other : List ℕ) (rest : List (List ℕ)) → is_feed x ≡ false → slice_split is_feed bytes ≡ parts ++ last ∷ [] → slice_split is_feed (bytes ++ more) ≡ parts ++ other ∷ rest
     → Cut (x ∷ bytes) more
 cut-onto x bytes more [] last other rest e front whole = record {
@@ -163,7 +155,7 @@ cut-more x bytes more true e c = record {
 cut-more x bytes more false e c = cut-onto x bytes more c.parts c.last c.other c.rest e c.front c.whole
 
 cut-at : (bytes more : List ℕ) → Cut bytes more
-cut-at [] more = let s = some-part more in record { parts = []; last = []; other = s.0; rest = s.1; front = refl; whole = s.2 }
+cut-at [] more = let s = first-part more in record { parts = []; last = []; other = s.0; rest = s.1; front = refl; whole = s.2 }
 cut-at (x ∷ bytes) more = cut-more x bytes more (is_feed x) refl (cut-at bytes more)
 
 begins-taken : (g : Shape) (taken left : List ℕ) → Begins (trace_of g taken) (trace_of g (taken ++ left))

@@ -5,7 +5,7 @@ use Rattle.command_words.specs.declared.geometry.Place.{Place}
 use Rattle.speed_bin.specs.Alert.{alert}
 use Rattle.command_words.specs.Kinds.{is_wr}
 use Rattle.speed_bin.specs.Log.{Issued, Log}
-use Rattle.speed_bin.specs.Marks.{is_in_range}
+use Rattle.speed_bin.specs.Marks.{stays_inside}
 use Rattle.speed_bin.specs.Rules.{all_closed, broken, broken_at_end}
 use Rattle.speed_bin.specs.declared.header.Header.{Header}
 use Rattle.requests.specs.Choice.{IsChosen, IsPrompt}
@@ -76,7 +76,7 @@ step_of it = issued_as it.clock it.command it.id
 -- rows, and all fourteen rules hold
 pub record IsDue (h : Header) (log : Log) (step : NumberedStep) : Type 0 where
   pub in_time : step.issued.clock < 2 ^ 48
-  pub row : IsTrue (is_in_range h step.issued.command)
+  pub row : IsTrue (stays_inside h step.issued.command)
   pub rules : broken h step.issued.clock step.issued.command log ≡ None
 
 abbrev pub IsDueIfAny : Header → Log → Option NumberedStep → Type 0

@@ -1,5 +1,4 @@
 -- The laws of the crates below, and what follows from them.
-use Rattle.audited_reports.proofs.Accepted.{opens-accepted}
 use Rattle.audited_reports.proofs.Audited.{Laws, audited}
 use Rattle.audited_reports.proofs.finished_report_is_ok.Goals as goal
 
@@ -11,4 +10,4 @@ returns c =
       verdict = λ h trace run clock accepted inside r. (c.headline.ensures.promises h trace run clock accepted inside r).rules;
       few = c.stays_below_the_limit.ensures.lines;
     } in
-    record { finding = λ h job text rest trace refusal bytes opens. audited laws h job text rest trace refusal bytes (opens-accepted h job text rest opens) opens }
+    record { finding = λ h job text rest trace refusal bytes opens. audited laws h job text rest trace refusal bytes (c.opened_header_is_accepted.ensures.accepted h job text rest opens) opens }

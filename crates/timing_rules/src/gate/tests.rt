@@ -9,6 +9,7 @@ use crate::gap;
 use command_words::{Bank, BankAddr, Column, Group, Mrw, Row};
 use rand_core::utils::NextWord;
 use rand_pcg::Pcg32;
+use speed_bin::TINY;
 use std::process::Abort;
 
 // The least clock of the command behind the others; `None` where one of those comes too soon, or memory is short.
@@ -69,32 +70,7 @@ fn write() -> Command {
 fn tiny() -> Timing
     ensures { IsTiming result }
 {
-    Timing {
-        ncl: 6,
-        ncwl: 4,
-        nrcd: 3,
-        nrp: 4,
-        nras: 6,
-        nrc: 10,
-        nrrd_s: 2,
-        nrrd_l: 3,
-        nfaw: 10,
-        nccd_s: 8,
-        nccd_l: 10,
-        nccd_l_wr: 12,
-        nwtr_s: 2,
-        nwtr_l: 4,
-        nrtp: 3,
-        nwr: 5,
-        nrfc: 20,
-        nrfcsb: 12,
-        nrfm: 24,
-        nrfmsb: 16,
-        nrefi: 1000,
-        nabo: 32,
-        nmrd: 4,
-        necs: 14,
-    }
+    TINY
 }
 
 fn bank(rt: &impl Abort, group: u8) -> Bank {

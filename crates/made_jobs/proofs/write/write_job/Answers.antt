@@ -1,4 +1,4 @@
-use Rattle.std.proofs.Common.{◌≡◌, ◌∙◌, ℕ, List, Option, sym, subst}
+use Rattle.std.proofs.Common.{◌∙◌, ℕ, List, Option, sym, subst}
 use Rattle.ddr_io.specs.Sink.{AppendsPrefix}
 use Rattle.ddr_io.specs.declared.status.Status.{Status}
 use Rattle.ddr_text.specs.Stop.{WriteCause, status_of}

@@ -8,7 +8,7 @@ use Rattle.log_ledger.specs.Held.{Held}
 use Rattle.log_ledger.specs.Standing.{StandsFor as LogStandsFor}
 use Rattle.requests.specs.Owed.{is_column, owed_after}
 use Rattle.scheduler.specs.declared.ledger.Ledger.{Ledger}
-use Rattle.scheduler.proofs.Spaced.{up_to_more}
+use Rattle.deadlines.proofs.Following.{up_more}
 use Rattle.scheduler.proofs.ledger.Ledger.issue.Goals as goal
 
 pub issue-requires-clause-may : goal.issue-requires-clause-may
@@ -31,5 +31,5 @@ returns-clause-stands c = λ h log s suits.
       stands = subst (λ (x : Held). LogStandsFor x h after) (sym (ap (λ (x : Ledger). x.log) same)) (c.issue.ensures.stands h log s.stands suits.follows);
       owed = λ b low. c.note.ensures.owed b low (λ closes. s.owed b low ∙ suits.spares b low closes) ∙ ap (λ o. owed_after (effect b command) (is_column command && covers command b) o) (s.owed b low);
       written = omega (arith, s.written, one, c.min-self.ensures);
-      later = (omega arith, up_to_more c.args.self.now.from (c.args.clock + 1) log (omega (arith, late)) s.later);
+      later = (omega arith, up_more c.args.self.now.from (c.args.clock + 1) log (omega (arith, late)) s.later);
     }

@@ -1,4 +1,4 @@
-use Rattle.scheduler.proofs.Spaced.{up_to_more}
+use Rattle.deadlines.proofs.Following.{up_more}
 use Rattle.scheduler.proofs.ledger.Ledger.wait_until.Goals as goal
 
 pub returns-clause-stands : goal.returns-clause-stands
@@ -7,5 +7,5 @@ returns-clause-stands c = λ h log s. record {
   stands = s.stands;
   owed = s.owed;
   written = s.written;
-  later = up_to_more c.args.self.now.from c.args.clock log c.requires s.later;
+  later = up_more c.args.self.now.from c.args.clock log c.requires s.later;
 }

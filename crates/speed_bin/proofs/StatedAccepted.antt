@@ -1,62 +1,22 @@
--- A header that a text states is accepted.
-use Rattle.std.proofs.Common.{◌≡◌, ◌∙◌, ap, refl, ℕ, suc, Bool, true, false, not, ◌&&◌, List, [], ◌∷◌, codes, Option, Some, None, Result, Ok, Err, arith, subst}
+-- A header that a text states in front of a separator with a version is accepted.
+use Rattle.std.proofs.Common.{◌≡◌, ℕ, Bool, true, false, not, ◌&&◌, List, codes, Option, Some, None, Result, Ok, Err, arith, refl, subst}
 use Rattle.std.specs.Prelude.{option_and_then, if◌then◌else◌}
 use Rattle.std.specs.Str.{is_utf8, bytes_eq}
-use Rattle.std.proofs.lemmas.Bool.{and_parts, leb-true}
-use Rattle.std.proofs.lemmas.Bool.Decides.{nat_tests}
+use Rattle.std.proofs.lemmas.Bool.{and_parts}
 use Rattle.toml.specs.Data.{Members}
 use Rattle.toml.specs.Parse.{parse_document}
-use Rattle.ddr_text.specs.Opening.{Accepts, Heading, behind, heading_in, judged, opening_of, opening_text, parts_of, with_heading}
-use Rattle.ddr_text.proofs.Reopened.{own-separator}
-use Rattle.ddr_text.proofs.Separators.{ends_in_range}
-use Rattle.speed_bin.specs.Version.{Figures, IsVersion}
-use Rattle.speed_bin.specs.Document.{checks_of, failed, header_in, header_of, header_stated, round_within_half, settings_in, text_at, thresholds_fit, timing_in, window_fits, with_bin}
-use Rattle.speed_bin.specs.Header.{Checks, IsAccepted}
+use Rattle.speed_bin.specs.Document.{checks_of, failed, header_in, header_of, header_stated, settings_in, text_at, timing_in, with_bin}
+use Rattle.speed_bin.specs.Header.{IsAccepted}
 use Rattle.speed_bin.specs.Keys.{all_members, has_required, key_fits, kind_fits, range_fits}
 use Rattle.speed_bin.specs.Rules.{first_failing}
 use Rattle.speed_bin.specs.Timing.{IsTiming, bin_named, prac_4800, tiny}
+use Rattle.speed_bin.specs.Version.{Figures, IsVersion}
 use Rattle.speed_bin.specs.declared.fault.HeaderFault.{HeaderFault}
 use Rattle.speed_bin.specs.declared.fault.HeaderFault.TheVariants.{NotToml, Key, Kind, Range}
 use Rattle.speed_bin.specs.declared.header.Header.{Header}
 use Rattle.speed_bin.specs.declared.timing.Timing.{Timing}
-use Rattle.audited_reports.proofs.Members.{settings-fit, timing-fits}
-
--- ---- The checks
-
-abbrev AllHold : List Bool → Type 0
-AllHold [] = Unit {0}
-AllHold (test ∷ tests) = (test ≡ true) × AllHold tests
-
-all-hold : (n : ℕ) (tests : List Bool) → first_failing n tests ≡ None → AllHold tests
-all-hold n [] none = tt
-all-hold n (true ∷ tests) none = (refl, all-hold (suc n) tests none)
-all-hold n (false ∷ tests) none = cc
-
-checks-pass : (h : Header) → first_failing 1 (checks_of h) ≡ None → Checks h
-unfolding checks_of window_fits thresholds_fit round_within_half
-checks-pass h none =
-    let (one, from_2) = all-hold 1 (checks_of h) none in
-    let (two, from_3) = from_2 in
-    let (three, from_4) = from_3 in
-    let (four, from_5) = from_4 in
-    let (five, from_6) = from_5 in
-    let (six, from_7) = from_6 in
-    let (seven, from_8) = from_7 in
-    let eight = from_8.0 in
-    let (ath, eth) = and_parts _ _ three in
-    let (least, most) = and_parts _ _ four in
-    let (burst, others) = and_parts _ _ eight in
-    let (read, write) = and_parts _ _ others in
-    record {
-      precharge_within_cycle = leb-true _ _ one;
-      window = leb-true _ _ two;
-      thresholds = (leb-true _ _ ath, leb-true _ _ eth);
-      management = (leb-true _ _ least, leb-true _ _ most);
-      closing_within_two = leb-true _ _ five;
-      round_within_half = leb-true _ _ six;
-      latencies = grind (arith, nat_tests);
-      bursts = (leb-true _ _ burst, leb-true _ _ read, leb-true _ _ write);
-    }
+use Rattle.speed_bin.proofs.Accepted.{checks_pass}
+use Rattle.speed_bin.proofs.Ranges.{settings_fit, timing_fits}
 
 -- ---- The bins
 
@@ -140,10 +100,10 @@ with-bin-accepted version top (Some bin) h named required ranges own e =
     let made : Header = record { timing = timing_in bin top; settings = settings_in top; version = version } in
     let both = checked-accepted made h (first_failing 1 (checks_of made)) refl e in
     subst IsAccepted both.0 (record {
-      timing = timing-fits bin top (named bin refl) ranges;
-      settings = settings-fit top required ranges;
+      timing = timing_fits bin top (named bin refl) ranges;
+      settings = settings_fit top required ranges;
       version = own;
-      checks = checks-pass made both.1;
+      checks = checks_pass made both.1;
     })
 
 members-accepted : (version : Figures) (top : Members) (h : Header) → IsVersion version → header_in version top ≡ Ok h → IsAccepted h
@@ -161,24 +121,9 @@ document-accepted : (version : Figures) (top : Option Members) (h : Header) → 
 document-accepted version None h own e = absurd cc
 document-accepted version (Some top) h own e = members-accepted version top h own e
 
-stated-accepted : (version : Figures) (text : List ℕ) (h : Header) → IsVersion version → header_stated version text ≡ Ok h → IsAccepted h
+pub stated-accepted : (version : Figures) (text : List ℕ) (h : Header) → IsVersion version → header_stated version text ≡ Ok h → IsAccepted h
 stated-accepted version text h own e = go (is_utf8 text) e
   where
     go : (utf8 : Bool) → (if utf8 then header_of version (parse_document text) else Err NotToml) ≡ Ok h → IsAccepted h
     go true f = document-accepted version (parse_document text) h own f
     go false f = absurd cc
-
--- A header that opens a job is accepted.
-pub opens-accepted : (h : Header) (job text rest : List ℕ) → opening_of job ≡ Accepts h text rest → IsAccepted h
-opens-accepted h job text rest e = go (heading_in [] (parts_of job)) refl e
-  where
-    go : (r : Result Heading ℕ) → heading_in [] (parts_of job) ≡ r → with_heading job r ≡ Accepts h text rest → IsAccepted h
-    go (Err reason) is f = absurd cc
-    go (Ok heading) is f = stated (header_stated heading.version heading.text) refl f
-      where
-        stated : (s : Result Header HeaderFault) → header_stated heading.version heading.text ≡ s → judged (opening_text heading) (behind (opening_text heading) job) s ≡ Accepts h text rest → IsAccepted h
-        stated (Err fault) was g = absurd cc
-        stated (Ok header) was g =
-            let same : header ≡ h = cc in
-            let own = ends_in_range heading.separator heading.version (own-separator job heading is).role in
-            stated-accepted heading.version heading.text h own (was ∙ ap Ok same)
