@@ -15,8 +15,11 @@ use Rattle.ddr_text.specs.ReportParts.{refusal_lines}
 use Rattle.trace_replay.specs.Ending.{end_lines}
 use Rattle.trace_replay.specs.Replay.{IsUnrefused, RunAnswers, refusal_of}
 use Rattle.trace_replay.specs.Job.{IsJobOf}
+use Rattle.ddr_text.specs.Stop.{WriteCause, status_of as stop_status}
 use Rattle.trace_replay.specs.declared.ending.Ending.{Ending}
 use Rattle.trace_replay.specs.declared.replay_loop.Ended.TheVariants.{Finished, Refused as RefusedOpening}
+use Rattle.ddr_text.specs.declared.stop.Stop.{Stop}
+use Rattle.ddr_text.specs.declared.stop.Stop.TheVariants as stops
 use Rattle.ddr_cli.specs.Made.{IsMadeEnd, MadeAnswers}
 use Rattle.ddr_cli.proofs.MadeJob.{Laws, made_is_job}
 
@@ -59,3 +62,9 @@ run_answers status.Refused seed requests before after bytes is writes = absurd w
 run_answers status.Usage seed requests before after bytes is writes = absurd writes
 run_answers status.ReadFault seed requests before after bytes is writes = absurd writes
 run_answers status.Broken seed requests before after bytes is writes = absurd writes
+
+-- only a write fault leaves another count of the sink
+pub end_kept : (stop : Stop) (answer : Status) (before after : ℕ) → answer ≡ stop_status stop → WriteCause before after stop → (answer ≡ status.WriteFault → ⊥) → after ≡ before
+end_kept stops.ReadFault answer before after e cause other = absurd cause
+end_kept stops.WriteFault answer before after e cause other = absurd (other e)
+end_kept stops.OutOfMemory answer before after e cause other = cause

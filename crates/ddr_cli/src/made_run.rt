@@ -1,12 +1,11 @@
 //! A made job that is replayed in memory.
-ghost use Rattle.std.specs.Prelude.{ℕ, ◌≡◌, ◌<◌, ◌≤◌, IfOk, length, None};
+ghost use Rattle.std.specs.Prelude.{ℕ, ◌≡◌, ◌≢◌, ◌<◌, ◌≤◌, IfOk, length, None};
 ghost use Rattle.std.specs.List.{flat_map};
 ghost use Rattle.ddr_io.specs.Faults.{Rose};
 ghost use Rattle.ddr_text.specs.Spelling.{spelled};
 ghost use Rattle.made_jobs.specs.Made.{made};
 ghost use Rattle.made_jobs.specs.Writing.{Writes};
 ghost use Rattle.trace_replay.specs.Ending.{end_lines};
-ghost use Rattle.ddr_cli.specs.AtEnd.{IsAnswer};
 ghost use Rattle.ddr_cli.specs.Made.{IsMadeEnd, MadeAnswers};
 
 use ddr_io::{OutOfMemory, PlainSink, PlainSource, Put, Sink, Status};
@@ -20,7 +19,7 @@ pub(crate) fn run_made<K: Sink>(alloc: Global, seed: u64, requests: u64, sink: &
     requires { requests ≤ 1048576 }
     ensures answer { MadeAnswers result seed requests (K.written sink.old) (K.written sink.new) }
     ensures write { result ≡ Status.WriteFault → Rose (K.faults sink.old) (K.faults sink.new) }
-    ensures writes_kept { IsAnswer result → K.faults sink.new ≡ K.faults sink.old }
+    ensures writes_kept { result ≢ Status.WriteFault → K.faults sink.new ≡ K.faults sink.old }
 {
     match end_made(alloc, seed, requests) {
         Ok(ending) => write_ending(&ending, sink),
@@ -32,7 +31,7 @@ pub(crate) fn run_made<K: Sink>(alloc: Global, seed: u64, requests: u64, sink: &
 fn write_ending<K: Sink>(ending: &Ending, sink: &mut K) -> Status
     ensures lines { Writes result (K.written sink.old) (K.written sink.new) (flat_map spelled (end_lines ending.now)) }
     ensures write { result ≡ Status.WriteFault → Rose (K.faults sink.old) (K.faults sink.new) }
-    ensures writes_kept { IsAnswer result → K.faults sink.new ≡ K.faults sink.old }
+    ensures writes_kept { result ≢ Status.WriteFault → K.faults sink.new ≡ K.faults sink.old }
 {
     match ending.write(sink) {
         Ok(()) => Status::Ok,

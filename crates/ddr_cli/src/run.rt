@@ -8,7 +8,6 @@ ghost use Rattle.trace_replay.specs.Replay.{Answers};
 ghost use Rattle.log_auditor.specs.Findings.{Answers as AuditAnswers};
 ghost use Rattle.made_jobs.specs.Made.{made};
 ghost use Rattle.made_jobs.specs.Writing.{Writes};
-ghost use Rattle.ddr_cli.specs.AtEnd.{IsAnswer};
 ghost use Rattle.ddr_cli.specs.Made.{MadeAnswers};
 ghost use Rattle.ddr_cli.specs.Shown.{ShowAnswers};
 ghost use Rattle.ddr_cli.specs.Upgraded.{UpgradeAnswers};
@@ -82,9 +81,9 @@ pub fn run<S: Source, K: Sink>(
     ensures write { result ≡ Status.WriteFault → Rose (K.faults sink.old) (K.faults sink.new) }
     ensures broken { result ≡ Status.Broken → IsAudit words.now }
 
-    // No fault is swallowed: where none is told, none was counted.
-    ensures reads_kept { IsAnswer result → S.faults source.new ≡ S.faults source.old }
-    ensures writes_kept { IsAnswer result → K.faults sink.new ≡ K.faults sink.old }
+    // No fault is passed over: only a read fault leaves another count of the source, and only a write fault one of the sink.
+    ensures reads_kept { result ≢ Status.ReadFault → S.faults source.new ≡ S.faults source.old }
+    ensures writes_kept { result ≢ Status.WriteFault → K.faults sink.new ≡ K.faults sink.old }
 {
     match form_of(words) {
         Some(Form::Replay) => replay(alloc, source, sink),

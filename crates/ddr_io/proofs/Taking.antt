@@ -1,8 +1,9 @@
 -- What one call of a reader of lines has taken from its source so far.
-use Rattle.std.proofs.Common.{◌≡◌, ℕ, ◌≤◌, List, [], ◌++◌, length, sym, ap, ◌∙◌, subst, arith, append-nil, append_assoc, Option}
+use Rattle.std.proofs.Common.{◌≡◌, ℕ, ◌≤◌, List, [], ◌++◌, length, sym, ap, ◌∙◌, subst, arith, append-nil, append_assoc, Option, Some, None, IfSome}
 use Rattle.std.proofs.KnownBytes.{Consumes-nil, Consumes-trans, Consumes-kept}
-use Rattle.std.specs.Io.KnownBytes.{Consumes, Keeps}
-use Rattle.ddr_io.specs.Line.{HasNoFeed, TakesToFeed}
+use Rattle.std.specs.Io.KnownBytes.{Consumes, Keeps, IsAtEnd}
+use Rattle.ddr_io.specs.Line.{HasNoFeed, StopsAt, TakesToFeed}
+use Rattle.ddr_io.specs.declared.line_reader.Line.TheVariants.{Text, End, TooLong, Unended, Failed}
 
 -- the reader held `start`, and holds `held` after some reads, before the last of which it had no line feed
 pub record Pieces (start held : List ℕ) (left rest : Option (List ℕ)) : Type 0 where
@@ -51,3 +52,32 @@ Taken-end start held left mid rest so_far kept clean = (so_far.earlier, so_far.l
 pub Taken-all : (start held : List ℕ) (left rest : Option (List ℕ)) → Taken start held left rest → HasNoFeed start → TakesToFeed start left rest
 unfolding Taken TakesToFeed
 Taken-all start held left rest so_far clean = (so_far.earlier, so_far.last, so_far.clean clean, so_far.room, so_far.consumed)
+
+-- at the end of a source that told its bytes none is left
+pub Taken-ended : (start held : List ℕ) (left mid rest : Option (List ℕ)) → Taken start held left mid → IsAtEnd mid → Keeps mid rest → IfSome left (λ _. IsAtEnd rest)
+unfolding Taken
+Taken-ended start held None mid rest so_far e kept = tt
+Taken-ended start held (Some bytes) None rest so_far e kept = absurd so_far.consumed
+Taken-ended start held (Some bytes) (Some more) None so_far e kept = absurd kept
+Taken-ended start held (Some bytes) (Some more) (Some last) so_far e kept = kept ∙ e
+
+-- what a reader of lines has where it stops
+pub stops_at_end : (left rest : Option (List ℕ)) (held : List ℕ) → IfSome left (λ _. IsAtEnd rest) → StopsAt left held rest End
+stops_at_end None rest held e = tt
+stops_at_end (Some bytes) rest held e = e
+
+pub stops_unended : (left rest : Option (List ℕ)) (held : List ℕ) → IfSome left (λ _. IsAtEnd rest) → StopsAt left held rest Unended
+stops_unended None rest held e = tt
+stops_unended (Some bytes) rest held e = e
+
+pub stops_long : (left rest : Option (List ℕ)) (held : List ℕ) → 512 ≤ length held → StopsAt left held rest TooLong
+stops_long None rest held long = tt
+stops_long (Some bytes) rest held long = long
+
+pub stops_failed : (left rest : Option (List ℕ)) (held : List ℕ) → StopsAt left held rest Failed
+stops_failed None rest held = tt
+stops_failed (Some bytes) rest held = tt
+
+pub stops_text : (left rest : Option (List ℕ)) (held : List ℕ) → StopsAt left held rest Text
+stops_text None rest held = tt
+stops_text (Some bytes) rest held = tt

@@ -46,3 +46,12 @@ IsNextLine old new line End = IsAtEnd old × Keeps old new
 IsNextLine old new line TooLong = IsTooLong old × Keeps old new
 IsNextLine old new line Unended = IsUnended old × Keeps old new
 IsNextLine old new line Failed = Keeps old new
+
+-- where no line came from a source that told its bytes: the 512 bytes of a line that is too long are held, and at the end the source has none left
+abbrev pub StopsAt : Option (List ℕ) → List ℕ → Option (List ℕ) → Line → Type 0
+StopsAt None held rest answer = ⊤
+StopsAt (Some bytes) held rest Text = ⊤
+StopsAt (Some bytes) held rest End = IsAtEnd rest
+StopsAt (Some bytes) held rest TooLong = 512 ≤ length held
+StopsAt (Some bytes) held rest Unended = IsAtEnd rest
+StopsAt (Some bytes) held rest Failed = ⊤

@@ -1,7 +1,7 @@
 //! A reader of lines.
 ghost use Rattle.std.specs.Prelude.{ℕ, ◌≡◌, ◌≢◌, ◌+◌, ◌/◌, ◌<◌, ◌≤◌, [], length, take, drop, slice_index, slice_range, IfSome, IfNone};
 ghost use Rattle.ddr_io.specs.Faults.{Rose};
-ghost use Rattle.ddr_io.specs.Line.{IsNextLine, IsFeedAt, HasFeed, HasNoFeed, TakesToFeed, next_bytes};
+ghost use Rattle.ddr_io.specs.Line.{IsNextLine, IsFeedAt, HasFeed, HasNoFeed, StopsAt, TakesToFeed, next_bytes};
 ghost use Rattle.ddr_io.specs.Reading.{Reading, Fills};
 
 use crate::{Got, Source};
@@ -107,6 +107,9 @@ impl LineReader {
         ensures taken { self.old.last ≡ Line.Text → HasNoFeed self.old.held →
             TakesToFeed self.old.held (S.left source.old) (S.left source.new) }
         ensures unfed { self.old.last ≡ Line.Text → result ≡ Line.Failed → HasNoFeed self.new.held }
+
+        // How far it has read where no line came.
+        ensures at_stop { self.old.last ≡ Line.Text → StopsAt (S.left source.old) self.new.held (S.left source.new) result }
 
         // A fault is told where the source counted one.
         ensures later { S.faults source.old ≤ S.faults source.new }

@@ -17,7 +17,6 @@ use Rattle.log_auditor.specs.declared.report_reader.Next.{Next}
 use Rattle.log_auditor.specs.declared.report_reader.Next.TheVariants.{Line, End as AtEnd, Refused as Refuses, Failed}
 use Rattle.log_auditor.specs.declared.report_reader.Stage.{Stage}
 use Rattle.log_auditor.specs.declared.report_reader.Stage.TheVariants.{Body, Counts, Ended, Closed}
-use Rattle.log_auditor.specs.declared.report_reader.TheConstants.{MOST_LINES}
 
 -- ---- Places
 
@@ -43,6 +42,10 @@ is_whole Closed = true
 
 -- ---- Lines
 
+-- a report has at most so many lines behind its opening
+abbrev pub most_lines : ℕ
+most_lines = 4294967295
+
 -- a line, and the stage behind it
 pub record Placed : Type 0 where
   pub line : ReportLine
@@ -61,7 +64,7 @@ in_place stage (Ok line) = placed line (stage_after stage line)
 -- the grammar, or one that may not stand there
 unfoldable pub judged_line : Shape → Stage → ℕ → List ℕ → Result Placed ℕ
 judged_line g stage number text =
-    if nat_lt MOST_LINES number then Err (number_of TooManyLines)
+    if nat_lt most_lines number then Err (number_of TooManyLines)
     else if is_long text then Err (number_of LineTooLong)
     else in_place stage (report_line_of g text)
 
@@ -69,7 +72,7 @@ judged_line g stage number text =
 -- one, a line without its line feed, or no E line)
 unfoldable pub judged_rest : Stage → ℕ → List ℕ → Option ℕ
 judged_rest stage number [] = if is_whole stage then None else Some (number_of NoEndLine)
-judged_rest stage number (byte ∷ bytes) = Some (if nat_lt MOST_LINES number then number_of TooManyLines else if is_long (byte ∷ bytes) then number_of LineTooLong else number_of LineUnended)
+judged_rest stage number (byte ∷ bytes) = Some (if nat_lt most_lines number then number_of TooManyLines else if is_long (byte ∷ bytes) then number_of LineTooLong else number_of LineUnended)
 
 -- ---- Reports
 
@@ -120,7 +123,7 @@ pub record StepsOn (old new : Place) (line : ReportLine) : Type 0 where
   pub inside : IsReportLine old.shape line
   pub stage : stage_after old.stage line ≡ Some new.stage
   pub number : new.number ≡ old.number + 1
-  pub few : old.number ≤ MOST_LINES
+  pub few : old.number ≤ most_lines
   pub shape : new.shape ≡ old.shape
   pub last : new.reader.last ≡ TextAnswer
 

@@ -1,5 +1,5 @@
 -- What a replay answers, by the bytes that its source had.
-use Rattle.std.proofs.Common.{◌≡◌, ◌∙◌, ℕ, inl, inr, true, false, Option, Some, None, is_some, Result, Ok, List, [], ◌++◌, refl, sym, ap, subst}
+use Rattle.std.proofs.Common.{◌≡◌, ◌∙◌, ℕ, inl, inr, true, false, Option, Some, None, is_some, Result, Ok, Err, List, [], ◌++◌, refl, sym, ap, subst}
 use Rattle.ddr_io.specs.Line.{next_bytes}
 use Rattle.ddr_io.specs.declared.status.Status.{Status}
 use Rattle.ddr_io.specs.declared.status.Status.TheVariants as status
@@ -12,7 +12,7 @@ use Rattle.ddr_text.specs.declared.lines.TraceLine.{TraceLine}
 use Rattle.speed_bin.specs.Header.{shape_of}
 use Rattle.trace_replay.specs.Job.{trace_of, Traced, IsJobOf, IsNoJob}
 use Rattle.trace_replay.specs.Reading.{Continues}
-use Rattle.trace_replay.specs.Replay.{JobAnswers, TraceAnswers, Answers, IsServed, TraceEnds, RunAnswers, EndKept, IsUnrefused}
+use Rattle.trace_replay.specs.Replay.{JobAnswers, TraceAnswers, Answers, IsServed, TraceEnds, RunAnswers, EndCause, EndKept, IsUnrefused}
 use Rattle.ddr_text.specs.Stop.{status_of}
 use Rattle.trace_replay.specs.declared.ending.Ending.{Ending}
 use Rattle.trace_replay.specs.declared.replay_loop.Ended.{Ended}
@@ -99,6 +99,9 @@ failed held known left written none u = inr (inr (inr (held-none held known left
 pub kept-behind : (before read read_after wrote wrote_after : ℕ) (ended : Ended) → read ≡ before → EndKept read read_after wrote wrote_after ended → EndKept before read_after wrote wrote_after ended
 kept-behind before read read_after wrote wrote_after ended same k = subst (λ n. EndKept n read_after wrote wrote_after ended) same k
 
+pub cause-behind : (before read read_after wrote wrote_after : ℕ) (ended : Ended) → read ≡ before → EndCause read read_after wrote wrote_after ended → EndCause before read_after wrote wrote_after ended
+cause-behind before read read_after wrote wrote_after ended same k = subst (λ n. EndCause n read_after wrote wrote_after ended) same k
+
 pub accepted-read : {E : Type 0} (opening : Opening) (h : Header) (text : List ℕ) → opening ≡ opens.Accepted h text → ◌≡◌ {A = Result Opening E} (Ok opening) (Ok opens.Failed) → ⊥
 accepted-read opening h text is e = let f : opening ≡ opens.Failed = cc in let k : opens.Accepted h text ≡ opens.Failed = sym is ∙ f in cc
 
@@ -107,6 +110,9 @@ failed-read opening is = ap Ok is
 
 pub refused-read : {E : Type 0} (opening : Opening) (reason : ℕ) → opening ≡ opens.Refused reason → ◌≡◌ {A = Result Opening E} (Ok opening) (Ok opens.Failed) → ⊥
 refused-read opening reason is e = let f : opening ≡ opens.Failed = cc in let k : opens.Refused reason ≡ opens.Failed = sym is ∙ f in cc
+
+pub memory-read : {E : Type 0} (answer : Result Opening E) (error : E) → answer ≡ Err error → answer ≡ Ok opens.Failed → ⊥
+memory-read answer error is e = let k : ◌≡◌ {A = Result Opening E} (Err error) (Ok opens.Failed) = sym is ∙ e in cc
 
 -- ---- A job with nothing to refuse is not refused
 

@@ -108,11 +108,12 @@ StopsServing ReadFault h start left before written = IsLeftOff h start left befo
 StopsServing WriteFault h start left before written = IsBegun h start before written
 StopsServing OutOfMemory h start left before written = IsBegun h start before written
 
--- the cause of a stop while reading and writing, by the counts of faults of the source and of the sink
+-- the cause of a stop while reading and writing, by the counts of faults of the source and of the sink: a fault of the one
+-- and none of the other, or want of memory and no fault
 abbrev pub StopCause : ℕ → ℕ → ℕ → ℕ → Stop → Type 0
-StopCause read read_after wrote wrote_after ReadFault = Rose read read_after
-StopCause read read_after wrote wrote_after WriteFault = Rose wrote wrote_after
-StopCause read read_after wrote wrote_after OutOfMemory = ⊤
+StopCause read read_after wrote wrote_after ReadFault = Rose read read_after × (wrote_after ≡ wrote)
+StopCause read read_after wrote wrote_after WriteFault = Rose wrote wrote_after × (read_after ≡ read)
+StopCause read read_after wrote wrote_after OutOfMemory = (read_after ≡ read) × (wrote_after ≡ wrote)
 
 -- ---- The end
 
@@ -155,10 +156,6 @@ abbrev pub EndKept : ℕ → ℕ → ℕ → ℕ → Ended → Type 0
 EndKept read read_after wrote wrote_after (Finished ending) = (read_after ≡ read) × (wrote_after ≡ wrote)
 EndKept read read_after wrote wrote_after (Stopped stop) = ⊤
 EndKept read read_after wrote wrote_after RefusedOpening = (read_after ≡ read) × (wrote_after ≡ wrote)
-
--- the statuses of a report that was written whole
-abbrev pub IsWhole : Status → Type 0
-IsWhole answer = (answer ≡ status.Ok) ⊎ (answer ≡ status.Refused)
 
 -- nothing of the job was refused
 abbrev pub IsUnrefused : Ended → Type 0

@@ -11,7 +11,7 @@ ghost use Rattle.reports.specs.Runs.{Run};
 ghost use Rattle.trace_replay.specs.Job.{IsJobOf};
 ghost use Rattle.trace_replay.specs.Reading.{Continues, IsRead};
 ghost use Rattle.trace_replay.specs.Progress.{Holds, IsUnder, IsOver, MayGoOn};
-ghost use Rattle.trace_replay.specs.Replay.{Answers, RunAnswers, OpeningEnds, TraceAnswers, TraceServed, TraceEnds, EndAnswers, EndCause, EndKept, IsUnrefused, IsWhole, StopsServing, StopCause};
+ghost use Rattle.trace_replay.specs.Replay.{Answers, RunAnswers, OpeningEnds, TraceAnswers, TraceServed, TraceEnds, EndAnswers, EndCause, EndKept, IsUnrefused, StopsServing, StopCause};
 ghost use Rattle.ddr_text.specs.Stop.{status_of};
 
 use crate::ending::Ending;
@@ -45,9 +45,9 @@ pub fn replay<S: Source, K: Sink>(alloc: Global, source: &mut S, sink: &mut K) -
     ensures read { result ≡ Status.ReadFault → Rose (S.faults source.old) (S.faults source.new) }
     ensures write { result ≡ Status.WriteFault → Rose (K.faults sink.old) (K.faults sink.new) }
 
-    // A report that was written whole met no fault.
-    ensures kept { IsWhole result → S.faults source.new ≡ S.faults source.old }
-    ensures kept_written { IsWhole result → K.faults sink.new ≡ K.faults sink.old }
+    // No fault is passed over: only a read fault leaves another count of the source, and only a write fault one of the sink.
+    ensures reads_kept { result ≢ Status.ReadFault → S.faults source.new ≡ S.faults source.old }
+    ensures writes_kept { result ≢ Status.WriteFault → K.faults sink.new ≡ K.faults sink.old }
 
     ensures usage { result ≢ Status.Usage }
     ensures broken { result ≢ Status.Broken }
@@ -62,7 +62,7 @@ pub fn replay<S: Source, K: Sink>(alloc: Global, source: &mut S, sink: &mut K) -
 // Writes the end of a report.
 fn end_report<K: Sink>(ending: &Ending, sink: &mut K) -> Status
     ensures answer { EndAnswers result ending.now (K.written sink.old) (K.written sink.new) }
-    ensures kept { IsWhole result → K.faults sink.new ≡ K.faults sink.old }
+    ensures writes_kept { result ≢ Status.WriteFault → K.faults sink.new ≡ K.faults sink.old }
     ensures write { result ≡ Status.WriteFault → Rose (K.faults sink.old) (K.faults sink.new) }
 {
     match ending.write(sink) {
@@ -104,7 +104,7 @@ fn refuse_opening<K: Sink>(reason: u8, sink: &mut K) -> Ended
     ensures answer { OpeningEnds result reason (K.written sink.old) (K.written sink.new) }
     ensures kept { (read : ℕ) → EndKept read read (K.faults sink.old) (K.faults sink.new) result }
     ensures later_written { K.faults sink.old ≤ K.faults sink.new }
-    ensures cause { (read read_after : ℕ) → EndCause read read_after (K.faults sink.old) (K.faults sink.new) result }
+    ensures cause { (read : ℕ) → EndCause read read (K.faults sink.old) (K.faults sink.new) result }
 {
     match put_line(&ReportLine::Refused(0, reason), sink) {
         Ok(()) => Ended::Refused,

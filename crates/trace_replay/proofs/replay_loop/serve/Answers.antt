@@ -2,7 +2,7 @@ use Rattle.std.proofs.Common.{◌∙◌, None, arith}
 use Rattle.ddr_io.specs.Line.{next_bytes}
 use Rattle.std.proofs.lemmas.Result.{err_from_is_err_and}
 use Rattle.trace_replay.proofs.Under.{under-none}
-use Rattle.trace_replay.proofs.LoopEnd.{stops-reading, stops-writing, under-any, turned-over, turned-under}
+use Rattle.trace_replay.proofs.LoopEnd.{stops-reading, stops-writing, under-any, turned-over, turned-under, read-cause, write-cause}
 use Rattle.trace_replay.proofs.replay_loop.serve.Goals as goal
 
 pub returns-in_err-offer_all-clause-cut : goal.returns-in_err-offer_all-clause-cut
@@ -74,3 +74,17 @@ returns-then-not-branch-clause-later g c = omega (arith, c.offer_all.ensures.lat
 
 pub returns-then-not-branch-clause-later_written : goal.returns-then-not-branch-clause-later_written
 returns-then-not-branch-clause-later_written g c = omega (arith, c.turn.ensures.later, c.turns.invariant.kept_written)
+
+pub returns-in_err-offer_all-clause-cause : goal.returns-in_err-offer_all-clause-cause
+returns-in_err-offer_all-clause-cause g c =
+    let p = err_from_is_err_and c.from_residual.result c.from_residual.ensures.1 in
+    rw (p.1, p.2) (
+    read-cause c.in_err-offer_all.field-0.0 (g.S.Source.faults c.args.source.now) (g.S.Source.faults c.turns.source) (g.S.Source.faults c.offer_all.new.source) (g.K.Sink.faults c.args.sink.now) (g.K.Sink.faults c.turns.sink)
+    c.turns.invariant.kept c.turns.invariant.kept_written c.in_err-offer_all.ensures.cause)
+
+pub returns-in_err-turn-clause-cause : goal.returns-in_err-turn-clause-cause
+returns-in_err-turn-clause-cause g c =
+    let p = err_from_is_err_and c.from_residual-in_err-turn.result c.from_residual-in_err-turn.ensures.1 in
+    rw (p.1, p.2) (
+    write-cause c.in_err-turn.field-0.0 (g.K.Sink.faults c.args.sink.now) (g.K.Sink.faults c.turns.sink) (g.K.Sink.faults c.turn.new.sink) (g.S.Source.faults c.args.source.now) (g.S.Source.faults c.offer_all.new.source)
+    c.turns.invariant.kept_written (c.in_ok-offer_all.ensures.kept ∙ c.turns.invariant.kept) c.in_err-turn.ensures.cause)

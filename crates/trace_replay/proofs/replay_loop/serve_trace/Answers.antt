@@ -1,6 +1,8 @@
-use Rattle.std.proofs.Common.{◌∙◌}
+use Rattle.std.proofs.Common.{◌∙◌, refl, subst}
 use Rattle.std.proofs.lemmas.Result.{err_from_is_err_and}
 use Rattle.ddr_io.specs.Line.{next_bytes}
+use Rattle.trace_replay.specs.Replay.{StopCause}
+use Rattle.trace_replay.proofs.LoopEnd.{cause-at-once, write-cause}
 use Rattle.trace_replay.proofs.LoopServed.{ReportLaws, under-start, stops-at-once, stops-opening, stops-serving, served}
 use Rattle.trace_replay.proofs.replay_loop.serve_trace.Goals as goal
 
@@ -60,3 +62,18 @@ returns-clause-served g c =
 
 pub returns-clause-kept : goal.returns-clause-kept
 returns-clause-kept g c = (c.in_ok-serve.ensures.kept.0, c.in_ok-serve.ensures.kept.1 ∙ c.in_ok-put_opening.ensures.kept)
+
+pub returns-in_err-progress-clause-cause : goal.returns-in_err-progress-clause-cause
+returns-in_err-progress-clause-cause g c =
+    let p = err_from_is_err_and c.from_residual.result c.from_residual.ensures.1 in
+    rw (p.1, p.2) (cause-at-once c.in_err-progress.field-0.0 (g.S.Source.faults c.args.source.now) (g.K.Sink.faults c.args.sink.now) c.in_err-progress.ensures.stop)
+
+pub returns-in_err-put_opening-clause-cause : goal.returns-in_err-put_opening-clause-cause
+returns-in_err-put_opening-clause-cause g c =
+    let p = err_from_is_err_and c.from_residual-in_err-put_opening.result c.from_residual-in_err-put_opening.ensures.1 in
+    rw (p.1, p.2) (write-cause c.in_err-put_opening.field-0.0 (g.K.Sink.faults c.args.sink.now) (g.K.Sink.faults c.args.sink.now) (g.K.Sink.faults c.put_opening.new.sink) (g.S.Source.faults c.args.source.now) (g.S.Source.faults c.args.source.now) refl refl c.in_err-put_opening.ensures.cause)
+
+pub returns-in_err-serve-clause-cause : goal.returns-in_err-serve-clause-cause
+returns-in_err-serve-clause-cause g c =
+    let p = err_from_is_err_and c.from_residual-in_err-serve.result c.from_residual-in_err-serve.ensures.1 in
+    rw (p.1, p.2) (subst (λ n. StopCause (g.S.Source.faults c.args.source.now) (g.S.Source.faults c.serve.new.source) n (g.K.Sink.faults c.serve.new.sink) c.in_err-serve.field-0.0) c.in_ok-put_opening.ensures.kept c.in_err-serve.ensures.cause)
