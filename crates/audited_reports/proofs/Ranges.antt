@@ -1,9 +1,8 @@
 -- The C, D and F lines of a sound run are within their ranges.
-use Rattle.std.proofs.Common.{nat_lt, inl, inr, ◌≡◌, ℕ, zero, suc, ◌+◌, ◌-◌, ◌^◌, ◌<◌, ◌≤◌, Bool, true, false, cond, Option, Some, None, List, [], ◌∷◌, ◌++◌, map, length, slice_get, refl, subst, arith}
+use Rattle.std.proofs.Common.{nat_lt, ◌≡◌, ℕ, zero, suc, ◌+◌, ◌-◌, ◌^◌, ◌<◌, ◌≤◌, Bool, true, false, cond, Option, Some, None, List, [], ◌∷◌, ◌++◌, map, length, slice_get, refl, subst, arith}
 use Rattle.std.specs.Prelude.{⊤}
 use Rattle.std.proofs.lemmas.Bool.{lt-ltb}
-use Rattle.command_words.specs.Command.{IsInRange}
-use Rattle.command_words.specs.Geometry.{Shape, IsGroups, lines_of}
+use Rattle.command_words.specs.Geometry.{Shape, lines_of}
 use Rattle.speed_bin.proofs.Tests.{joined}
 use Rattle.command_words.specs.declared.command.Command.{Command}
 use Rattle.command_words.specs.declared.command.Command.TheVariants.{Act, Rd, Wr, PrePb, PreSb, PreAb, RefAb, RefSb, RfmAb, RfmSb, Mrw, Ecs, Nop}

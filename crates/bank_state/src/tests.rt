@@ -95,3 +95,15 @@ fn rows_open_and_close(rt: HostRuntime) -> Result<(), Fail> {
     assert!(rt; banks.all_closed());
     Ok(())
 }
+
+#[test]
+fn each_fault_has_its_number(rt: HostRuntime) {
+    let rows = [
+        (StateFault::IsOpen, 1),
+        (StateFault::IsClosed, 2),
+        (StateFault::NotAllClosed, 3),
+    ];
+    for (fault, number) in rows {
+        assert_eq!(rt; number, fault as u8);
+    }
+}

@@ -122,3 +122,17 @@ fn a_command_says_its_kind(rt: HostRuntime) -> Result<(), Fail> {
     assert!(rt; Bank::numbered(31).number() == 31);
     Ok(())
 }
+
+#[test]
+fn each_fault_has_its_number(rt: HostRuntime) {
+    let rows = [
+        (WordFault::Unknown, 1),
+        (WordFault::SecondMissing, 2),
+        (WordFault::SecondExtra, 3),
+        (WordFault::Reserved, 4),
+        (WordFault::Range, 5),
+    ];
+    for (fault, number) in rows {
+        assert_eq!(rt; number, fault as u8);
+    }
+}

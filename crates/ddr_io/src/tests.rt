@@ -214,3 +214,19 @@ fn interrupted_calls_are_tried_again(rt: HostRuntime) {
     let mut sink = RealSink::new(Interrupted { times: 3 });
     assert_eq!(rt; sink.write(b"a"), Put::Took(1));
 }
+
+#[test]
+fn each_status_has_its_number(rt: HostRuntime) {
+    let rows = [
+        (Status::Ok, 0),
+        (Status::Refused, 1),
+        (Status::Usage, 2),
+        (Status::ReadFault, 3),
+        (Status::WriteFault, 4),
+        (Status::OutOfMemory, 5),
+        (Status::Broken, 6),
+    ];
+    for (status, number) in rows {
+        assert_eq!(rt; number, status as u8);
+    }
+}

@@ -72,3 +72,14 @@ fn bad_writes_are_refused(rt: HostRuntime) {
     assert!(rt; registers == Registers::new());
     assert!(rt; registers.settings() == None);
 }
+
+#[test]
+fn each_fault_has_its_number(rt: HostRuntime) {
+    let rows = [
+        (RegisterFault::NoRegister, 1),
+        (RegisterFault::BadValue, 2),
+    ];
+    for (fault, number) in rows {
+        assert_eq!(rt; number, fault as u8);
+    }
+}

@@ -15,9 +15,9 @@ use Rattle.reports.specs.Requests.{Request}
 use Rattle.reports.specs.Runs.{Run, is_served, ready, held}
 use Rattle.reports.specs.Readings.{reading_of}
 use Rattle.reports.specs.Report.{answers}
-use Rattle.trace_replay.specs.Held.{Kept, first_served, has_ended, without_first}
-use Rattle.trace_replay.specs.Progress.{outcome_of, kept_as, kept_of, lines_for, answer_lines}
-use Rattle.trace_replay.specs.declared.held.HeldRequest.{HeldRequest}
+use Rattle.trace_replay.specs.RequestBuffer.{Kept, first_served, has_ended, without_first}
+use Rattle.trace_replay.specs.ReplayState.{outcome_of, kept_as, kept_of, lines_for, answer_lines}
+use Rattle.trace_replay.specs.declared.request_buffer.HeldRequest.{HeldRequest}
 use Rattle.ddr_text.proofs.Prefixes.{prefix-behind, prefix-longer}
 
 -- these lines are written of the answers that are due, and these requests are kept still

@@ -24,13 +24,13 @@ use Rattle.reports.specs.Whole.{whole}
 use Rattle.trace_replay.specs.Counts.{counts_of, with_peak}
 use Rattle.trace_replay.specs.Coupled.{Step, StandsFor, from_of, log_of as steps_log, device_steps as stored_steps}
 use Rattle.trace_replay.specs.Ending.{end_lines, refused_line, reason_in}
-use Rattle.trace_replay.specs.Progress.{Holds, Refuses}
+use Rattle.trace_replay.specs.ReplayState.{LoopInvariant, Refuses}
 use Rattle.trace_replay.specs.Replay.{refusal_of}
 use Rattle.trace_replay.specs.declared.counts.Counts.{Counts}
 use Rattle.trace_replay.specs.declared.ending.Ending.{Ending}
-use Rattle.trace_replay.specs.declared.progress.Ahead.{Ahead}
-use Rattle.trace_replay.specs.declared.progress.Ahead.TheVariants.{Unknown, Waits, Passes, End, Refused}
-use Rattle.trace_replay.specs.declared.progress.Progress.{Progress}
+use Rattle.trace_replay.specs.declared.replay_state.Ahead.{Ahead}
+use Rattle.trace_replay.specs.declared.replay_state.Ahead.TheVariants.{Unknown, NextLine, Passes, End, Refused}
+use Rattle.trace_replay.specs.declared.replay_state.ReplayState.{ReplayState}
 use Rattle.ddr_text.proofs.Prefixes.{prefix-behind}
 
 -- ---- One piece behind the other
@@ -48,13 +48,13 @@ lines-cut-behind (Err e) a b c lines more h cut =
 -- ---- The S lines of a run
 
 -- what holds of the lists of both ends, and of what they count
-pub record Known (h : Header) (p : Progress) (peak : ℕ) (scrub : ScrubCounts) : Type 0 where
+pub record Known (h : Header) (p : ReplayState) (peak : ℕ) (scrub : ScrubCounts) : Type 0 where
   pub one_log : (steps : List Step) → device_log (stored_steps steps) ≡ steps_log steps
   pub device_log_is : (trace : List TraceLine) (run : Run) → device_log (device_steps h trace run) ≡ log_of run
   pub peak_is : (offers : List Asked) (idle : ℕ) (steps : List Step) → StandsFor p.coupled h offers idle steps → peak ≡ peak_after h (steps_log steps)
   pub scrub_is : (offers : List Asked) (idle : ℕ) (steps : List Step) → StandsFor p.coupled h offers idle steps → scrub ≡ scrub_counts h (stored_steps steps)
 
-pub stats-are : (h : Header) (p : Progress) (peak : ℕ) (scrub : ScrubCounts) (trace : List TraceLine) (run : Run) → Known h p peak scrub → Holds h p trace run → stat_lines (with_peak p.counts peak) scrub ≡ stats h trace run
+pub stats-are : (h : Header) (p : ReplayState) (peak : ℕ) (scrub : ScrubCounts) (trace : List TraceLine) (run : Run) → Known h p peak scrub → LoopInvariant h p trace run → stat_lines (with_peak p.counts peak) scrub ≡ stats h trace run
 unfolding counts_of
 stats-are h p peak scrub trace run known k =
     let device = k.both.are_of.device in
@@ -69,21 +69,21 @@ stats-are h p peak scrub trace run known k =
 
 pub refusal-is : (ahead : Ahead) (trace : List TraceLine) (lines : ℕ) (refusal : Option (ℕ × ℕ)) → length trace ≡ lines → Refuses ahead lines refusal → refused_line refusal ≡ refusal_lines (refusal_of trace (reason_in ahead))
 refusal-is Unknown trace lines refusal e r = ap refused_line r
-refusal-is (Waits line) trace lines refusal e r = ap refused_line r
+refusal-is (NextLine line) trace lines refusal e r = ap refused_line r
 refusal-is (Passes clocks) trace lines refusal e r = ap refused_line r
 refusal-is End trace lines refusal e r = ap refused_line r
 refusal-is (Refused reason) trace lines refusal e r = ap refused_line r ∙ ap (λ (n : ℕ). RefusedLine (n + 1) reason ∷ []) (sym e)
 
 pub refused-where : (ahead : Ahead) (lines : ℕ) (refusal : Option (ℕ × ℕ)) → Refuses ahead lines refusal → is_some refusal ≡ is_some (reason_in ahead)
 refused-where Unknown lines refusal r = ap (λ (o : Option (ℕ × ℕ)). is_some o) r
-refused-where (Waits line) lines refusal r = ap (λ (o : Option (ℕ × ℕ)). is_some o) r
+refused-where (NextLine line) lines refusal r = ap (λ (o : Option (ℕ × ℕ)). is_some o) r
 refused-where (Passes clocks) lines refusal r = ap (λ (o : Option (ℕ × ℕ)). is_some o) r
 refused-where End lines refusal r = ap (λ (o : Option (ℕ × ℕ)). is_some o) r
 refused-where (Refused reason) lines refusal r = ap (λ (o : Option (ℕ × ℕ)). is_some o) r
 
 -- ---- All of them
 
-pub ending-is : (h : Header) (p : Progress) (it : Ending) (trace : List TraceLine) (run : Run) → it.counts ≡ p.counts → it.clock ≡ from_of p.coupled → Known h p it.peak it.scrub → Refuses p.ahead p.tally.lines it.refusal → Holds h p trace run
+pub ending-is : (h : Header) (p : ReplayState) (it : Ending) (trace : List TraceLine) (run : Run) → it.counts ≡ p.counts → it.clock ≡ from_of p.coupled → Known h p it.peak it.scrub → Refuses p.ahead p.tally.lines it.refusal → LoopInvariant h p trace run
     → end_lines it ≡ stats h trace run ++ EndLine (from_of p.coupled) ∷ refusal_lines (refusal_of trace (reason_in p.ahead))
 ending-is h p it trace run counted clock known refused k =
     ap (λ (counts : Counts). stat_lines (with_peak counts it.peak) it.scrub ++ EndLine it.clock ∷ refused_line it.refusal) counted

@@ -22,13 +22,13 @@ use Rattle.reports.specs.Runs.{Run, Step as RunStep, log_of, ready, held}
 use Rattle.reports.specs.Underway.{Next as NextLine, IsUnderway, issue}
 use Rattle.trace_replay.specs.Coupled.{Step, StandsFor, IsAwaited, pending_of, controller_of, from_of, until_of, finished_of, issued_as, delivered, with_pending, log_of as coupled_log, controller_steps as numbered_steps, device_steps as stored_steps}
 use Rattle.trace_replay.specs.Counts.{counts_of}
-use Rattle.trace_replay.specs.Held.{Kept, Has}
-use Rattle.trace_replay.specs.Progress.{following, passing, kept_of, bytes_at, outcome_with, noted, AreOf, BothStand, IsAhead, Holds, IsIssuing, IsDelivered}
+use Rattle.trace_replay.specs.RequestBuffer.{Kept, Has}
+use Rattle.trace_replay.specs.ReplayState.{following, passing, kept_of, bytes_at, outcome_with, noted, AreOf, BothStand, IsAhead, LoopInvariant, IsIssuing, IsDelivered}
 use Rattle.trace_replay.specs.declared.counts.Counts.{Counts}
 use Rattle.trace_replay.specs.declared.ends.Ends.{Ends as Coupled}
-use Rattle.trace_replay.specs.declared.progress.Ahead.{Ahead}
-use Rattle.trace_replay.specs.declared.progress.Ahead.TheVariants.{Unknown, Waits, Passes, End, Refused}
-use Rattle.trace_replay.specs.declared.progress.Progress.{Progress}
+use Rattle.trace_replay.specs.declared.replay_state.Ahead.{Ahead}
+use Rattle.trace_replay.specs.declared.replay_state.Ahead.TheVariants.{Unknown, NextLine, Passes, End, Refused}
+use Rattle.trace_replay.specs.declared.replay_state.ReplayState.{ReplayState}
 use Rattle.trace_replay.proofs.Agreeing.{places_are}
 use Rattle.trace_replay.proofs.Taken.{few-asked, same-length, total-clocks}
 use Rattle.trace_replay.specs.Delivery.{DeliveryLaws}
@@ -37,13 +37,13 @@ use Rattle.trace_replay.proofs.Noting.{bytes-are, has-it, kept-after}
 -- ---- Before it is delivered
 
 -- the run with it
-goes-under : DeliveryLaws → (h : Header) (p : Progress) (trace : List TraceLine) (run : Run) (clock : ℕ) (command : Command) (id : Option RequestId) (k : IsIssuing h p trace run clock command id)
+goes-under : DeliveryLaws → (h : Header) (p : ReplayState) (trace : List TraceLine) (run : Run) (clock : ℕ) (command : Command) (id : Option RequestId) (k : IsIssuing h p trace run clock command id)
     → IsUnderway h trace k.follows.done (from_of p.coupled) (issue trace clock command (number_of id) ∷ run) (following p.ahead)
 goes-under laws h p trace run clock command id k =
     laws.kept h trace k.follows.done k.follows.now (from_of p.coupled) run (following p.ahead) clock command (number_of id) k.follows.underway k.issued k.follows.past k.passed
 
 -- the device may be given it, with the bytes that are kept
-pub awaited : DeliveryLaws → (h : Header) (p : Progress) (trace : List TraceLine) (run : Run) (clock : ℕ) (command : Command) (id : Option RequestId) (bytes : Option (List ℕ)) → bytes ≡ bytes_at p.held (number_of id) → IsIssuing h p trace run clock command id
+pub awaited : DeliveryLaws → (h : Header) (p : ReplayState) (trace : List TraceLine) (run : Run) (clock : ℕ) (command : Command) (id : Option RequestId) (bytes : Option (List ℕ)) → bytes ≡ bytes_at p.held (number_of id) → IsIssuing h p trace run clock command id
     → IsAwaited (pending_of p.coupled) bytes
 awaited laws h p trace run clock command id bytes e k =
     let u = goes-under laws h p trace run clock command id k in
@@ -54,7 +54,7 @@ awaited laws h p trace run clock command id bytes e k =
       with_bytes = ap is_some (e ∙ bytes-are laws h trace run clock command (number_of id) p.held u.sound k.issued.serving k.follows.kept) ∙ given.with_bytes;
     }
 
-pub issuing-has : DeliveryLaws → (h : Header) (p : Progress) (trace : List TraceLine) (run : Run) (clock : ℕ) (command : Command) (id : Option RequestId) → IsIssuing h p trace run clock command id → IfSome (number_of id) (λ n. Has p.held n)
+pub issuing-has : DeliveryLaws → (h : Header) (p : ReplayState) (trace : List TraceLine) (run : Run) (clock : ℕ) (command : Command) (id : Option RequestId) → IsIssuing h p trace run clock command id → IfSome (number_of id) (λ n. Has p.held n)
 issuing-has laws h p trace run clock command id k =
     has-it laws h trace run clock command (number_of id) p.held (goes-under laws h p trace run clock command id k).sound k.issued.serving k.follows.kept
 
@@ -63,7 +63,7 @@ as-many-places [] = refl
 as-many-places (step ∷ log) = ap suc (as-many-places log)
 
 -- fewer commands were issued than can ever be
-pub few-commands : DeliveryLaws → (h : Header) (p : Progress) (trace : List TraceLine) (run : Run) (clock : ℕ) (command : Command) (id : Option RequestId) → IsIssuing h p trace run clock command id → length (log_of run) < 2200000000
+pub few-commands : DeliveryLaws → (h : Header) (p : ReplayState) (trace : List TraceLine) (run : Run) (clock : ℕ) (command : Command) (id : Option RequestId) → IsIssuing h p trace run clock command id → length (log_of run) < 2200000000
 few-commands laws h p trace run clock command id k =
     let f = k.follows in
     let few : length (offered trace) ≤ 1048576 = omega (arith, same-length (requests trace), few-asked 1 trace, f.traced.few) in
@@ -79,7 +79,7 @@ few-commands laws h p trace run clock command id k =
 -- ---- After it was delivered
 
 -- a run under way, and what is known of the line ahead
-record Onwards (h : Header) (q : Progress) (trace : List TraceLine) (run : Run) (a : Ahead) : Type 0 where
+record Onwards (h : Header) (q : ReplayState) (trace : List TraceLine) (run : Run) (a : Ahead) : Type 0 where
   pub done : ℕ
   pub now : ℕ
   pub underway : IsUnderway h trace done now run (following a)
@@ -103,7 +103,7 @@ none-chosen h log clock Ecs id s = s
 none-chosen h log clock Nop id s = absurd s
 
 -- while the clocks of an I line pass, no request is served, and they pass from the same clock on
-passes-on : (h : Header) (p : Progress) (next : Coupled) (kept : Kept) (counts : Counts) (trace : List TraceLine) (run : Run) (clock : ℕ) (command : Command) (n now clocks : ℕ)
+passes-on : (h : Header) (p : ReplayState) (next : Coupled) (kept : Kept) (counts : Counts) (trace : List TraceLine) (run : Run) (clock : ℕ) (command : Command) (n now clocks : ℕ)
     → from_of next ≡ from_of p.coupled → until_of next ≡ until_of p.coupled → finished_of next ≡ finished_of p.coupled → now ≤ from_of p.coupled
     → IsUnderway h trace n now run (NextLine (Idle clocks)) → IsUnderway h trace n (from_of p.coupled) (issue trace clock command None ∷ run) (NextLine (Idle clocks)) → IsAhead p trace run h now (Passes clocks)
     → Onwards h (record p { coupled = next; held = kept; counts = counts }) trace (issue trace clock command None ∷ run) (Passes clocks)
@@ -115,12 +115,12 @@ passes-on h p next kept counts trace run clock command n now clocks from until f
   ahead = (finished ∙ was.0, was.1, was.2, until ∙ was.3);
 }
 
-onwards : (h : Header) (p : Progress) (next : Coupled) (kept : Kept) (counts : Counts) (trace : List TraceLine) (run : Run) (clock : ℕ) (command : Command) (id : Option ℕ) (n now : ℕ) (a : Ahead)
+onwards : (h : Header) (p : ReplayState) (next : Coupled) (kept : Kept) (counts : Counts) (trace : List TraceLine) (run : Run) (clock : ℕ) (command : Command) (id : Option ℕ) (n now : ℕ) (a : Ahead)
     → from_of next ≡ from_of p.coupled → until_of next ≡ until_of p.coupled → finished_of next ≡ finished_of p.coupled → now ≤ from_of p.coupled
     → IsUnderway h trace n now run (following a) → IsUnderway h trace n (from_of p.coupled) (issue trace clock command id ∷ run) (following a) → IsChosen h (waiting h (offered trace) (controller_steps trace run)) (log_of run) clock command id → IsAhead p trace run h now a
     → Onwards h (record p { coupled = next; held = kept; counts = counts }) trace (issue trace clock command id ∷ run) a
 onwards h p next kept counts trace run clock command id n now Unknown from until finished low u v chosen was = record { done = n; now = from_of p.coupled; underway = v; past = omega (arith, from); ahead = finished ∙ was }
-onwards h p next kept counts trace run clock command id n now (Waits line) from until finished low u v chosen was = record { done = n; now = from_of p.coupled; underway = v; past = omega (arith, from); ahead = (finished ∙ was.0, was.1) }
+onwards h p next kept counts trace run clock command id n now (NextLine line) from until finished low u v chosen was = record { done = n; now = from_of p.coupled; underway = v; past = omega (arith, from); ahead = (finished ∙ was.0, was.1) }
 onwards h p next kept counts trace run clock command id n now (Passes clocks) from until finished low u v chosen was =
     let none : id ≡ None = none-chosen h (log_of run) clock command id (subst (λ ws. IsChosen h ws (log_of run) clock command id) was.2 chosen) in
     subst (λ i. Onwards h (record p { coupled = next; held = kept; counts = counts }) trace (issue trace clock command i ∷ run) (Passes clocks)) (sym none)
@@ -132,7 +132,7 @@ log-same : DeliveryLaws → (h : Header) (trace : List TraceLine) (run : Run) (s
 log-same laws h trace run steps a = sym (places_are steps) ∙ ap places a.controller ∙ laws.log trace run
 
 -- both ends stand for the list with it
-both-after : DeliveryLaws → (h : Header) (p : Progress) (next : Coupled) (kept : Kept) (counts : Counts) (trace : List TraceLine) (run : Run) (clock : ℕ) (command : Command) (id : Option RequestId) (bytes : Option (List ℕ)) → bytes ≡ bytes_for trace (ranked trace (number_of id))
+both-after : DeliveryLaws → (h : Header) (p : ReplayState) (next : Coupled) (kept : Kept) (counts : Counts) (trace : List TraceLine) (run : Run) (clock : ℕ) (command : Command) (id : Option RequestId) (bytes : Option (List ℕ)) → bytes ≡ bytes_for trace (ranked trace (number_of id))
     → ((offers : List Asked) (idle : ℕ) (steps : List Step) (step : NumberedStep) → StandsFor p.coupled h offers idle steps → pending_of p.coupled ≡ Some step → StandsFor next h offers idle (delivered step bytes ∷ steps))
     → IsIssuing h p trace run clock command id → BothStand h (record p { coupled = next; held = kept; counts = counts }) trace (issue trace clock command (number_of id) ∷ run)
 both-after laws h p next kept counts trace run clock command id bytes e stands k = record {
@@ -145,7 +145,7 @@ both-after laws h p next kept counts trace run clock command id bytes e stands k
   stands = stands (offered trace) (p.tally.clocks + passing p.ahead) k.both.steps (issued_as clock command id) k.both.stands k.is_pending;
 }
 
-pub delivered-is : DeliveryLaws → (h : Header) (p : Progress) (trace : List TraceLine) (run : Run) (clock : ℕ) (command : Command) (id : Option RequestId) (next : Coupled) (kept : Kept) (counts : Counts) (found : Option LineRead) (raised : Bool) (bytes : Option (List ℕ))
+pub delivered-is : DeliveryLaws → (h : Header) (p : ReplayState) (trace : List TraceLine) (run : Run) (clock : ℕ) (command : Command) (id : Option RequestId) (next : Coupled) (kept : Kept) (counts : Counts) (found : Option LineRead) (raised : Bool) (bytes : Option (List ℕ))
     → bytes ≡ bytes_at p.held (number_of id)
     → ((offers : List Asked) (idle : ℕ) (steps : List Step) (step : NumberedStep) → StandsFor p.coupled h offers idle steps → pending_of p.coupled ≡ Some step → StandsFor next h offers idle (delivered step bytes ∷ steps))
     → ((offers : List Asked) (idle : ℕ) (steps : List Step) (step : NumberedStep) → StandsFor p.coupled h offers idle steps → pending_of p.coupled ≡ Some step → found ≡ device_answer h step.issued.command (stored_steps steps))
@@ -189,9 +189,9 @@ abbrev pub HeldMore : Type 0
 HeldMore = (rs : List Request) (step : RunStep) (run : Run) → held rs (step ∷ run) ≡ held (held rs run) (step ∷ run)
 
 -- once the answers that are due are written, the run with the command is under way
-pub issued-holds : ReadyMore → HeldMore → (h : Header) (p : Progress) (trace : List TraceLine) (run : Run) (clock : ℕ) (command : Command) (id : Option RequestId) (kept : Kept) → IsDelivered h p trace run (issue trace clock command (number_of id))
+pub issued-holds : ReadyMore → HeldMore → (h : Header) (p : ReplayState) (trace : List TraceLine) (run : Run) (clock : ℕ) (command : Command) (id : Option RequestId) (kept : Kept) → IsDelivered h p trace run (issue trace clock command (number_of id))
     → kept ≡ kept_of h trace (issue trace clock command (number_of id) ∷ run) (length (ready (requests trace) run) + length (ready (held (requests trace) run) (issue trace clock command (number_of id) ∷ run))) (held (held (requests trace) run) (issue trace clock command (number_of id) ∷ run))
-    → Holds h (record p { commands = p.commands + 1; last = clock; held = kept }) trace (issue trace clock command (number_of id) ∷ run)
+    → LoopInvariant h (record p { commands = p.commands + 1; last = clock; held = kept }) trace (issue trace clock command (number_of id) ∷ run)
 issued-holds more others h p trace run clock command id kept d e =
     let step = issue trace clock command (number_of id) in
     let many : length (ready (requests trace) run) + length (ready (held (requests trace) run) (step ∷ run)) ≡ length (ready (requests trace) (step ∷ run))
@@ -219,7 +219,7 @@ issued-holds more others h p trace run clock command id kept d e =
   where
     still-ahead : (now : ℕ) (a : Ahead) → IsAhead p trace (issue trace clock command (number_of id) ∷ run) h now a → IsAhead (record p { commands = p.commands + 1; last = clock; held = kept }) trace (issue trace clock command (number_of id) ∷ run) h now a
     still-ahead now Unknown w = w
-    still-ahead now (Waits line) w = w
+    still-ahead now (NextLine line) w = w
     still-ahead now (Passes clocks) w = w
     still-ahead now End w = w
     still-ahead now (Refused reason) w = w

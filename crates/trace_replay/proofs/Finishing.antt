@@ -23,11 +23,11 @@ use Rattle.reports.specs.Underway.{Ended, IsUnderway, IsOffered, IsStopped, IsEn
 use Rattle.trace_replay.specs.Coupled.{After, Rests, controller_of, from_of, until_of, finished_of, log_of as delivered_log}
 use Rattle.trace_replay.specs.declared.ends.Ends.{Ends as Coupled}
 use Rattle.trace_replay.specs.Reading.{IsRead}
-use Rattle.trace_replay.specs.Progress.{following, passing, IsKnown, IsAhead, Holds, IsResting, IsAtRest, IsUnder, IsOver}
+use Rattle.trace_replay.specs.ReplayState.{following, passing, IsKnown, IsAhead, LoopInvariant, IsResting, IsAtRest, IsUnder, IsOver}
 use Rattle.trace_replay.specs.Turning.{IsSpelled, IsDone, Turned}
-use Rattle.trace_replay.specs.declared.progress.Ahead.{Ahead}
-use Rattle.trace_replay.specs.declared.progress.Ahead.TheVariants.{Unknown, Waits, Passes, End, Refused}
-use Rattle.trace_replay.specs.declared.progress.Progress.{Progress}
+use Rattle.trace_replay.specs.declared.replay_state.Ahead.{Ahead}
+use Rattle.trace_replay.specs.declared.replay_state.Ahead.TheVariants.{Unknown, NextLine, Passes, End, Refused}
+use Rattle.trace_replay.specs.declared.replay_state.ReplayState.{ReplayState}
 use Rattle.trace_replay.proofs.Taken.{controls}
 use Rattle.trace_replay.proofs.Issuing.{IssueLaws, ahead-turned, issuing-of, same-log}
 
@@ -67,8 +67,8 @@ pub record EndLaws : Type 0 where
 -- ---- Nothing waits
 
 -- the controller has let the time pass
-pub rested-holds : (h : Header) (p : Progress) (new : Coupled) (trace : List TraceLine) (run : Run) (k : Holds h p trace run) → until_of new ≡ until_of p.coupled → finished_of new ≡ finished_of p.coupled
-    → Rests (from_of p.coupled) (until_of p.coupled) h new (offered trace) (p.tally.clocks + passing p.ahead) k.both.steps → Holds h (record p { coupled = new }) trace run
+pub rested-holds : (h : Header) (p : ReplayState) (new : Coupled) (trace : List TraceLine) (run : Run) (k : LoopInvariant h p trace run) → until_of new ≡ until_of p.coupled → finished_of new ≡ finished_of p.coupled
+    → Rests (from_of p.coupled) (until_of p.coupled) h new (offered trace) (p.tally.clocks + passing p.ahead) k.both.steps → LoopInvariant h (record p { coupled = new }) trace run
 rested-holds h p new trace run k until finished r =
     let f = k.follows in
     let from : from_of p.coupled ≤ from_of new = at-most (from_of p.coupled) (until_of p.coupled) (from_of new) r.now in
@@ -95,11 +95,11 @@ rested-holds h p new trace run k until finished r =
     at-most : (a b c : ℕ) → c ≡ max a b → a ≤ c
     at-most a b c e = omega (arith, e)
 
-pub none-waits : (h : Header) (p : Progress) (new : Coupled) (trace : List TraceLine) (run : Run) (k : Holds h p trace run)
+pub none-waits : (h : Header) (p : ReplayState) (new : Coupled) (trace : List TraceLine) (run : Run) (k : LoopInvariant h p trace run)
     → Rests (from_of p.coupled) (until_of p.coupled) h new (offered trace) (p.tally.clocks + passing p.ahead) k.both.steps → waiting h (offered trace) (controller_steps trace run) ≡ []
 none-waits h p new trace run k r = ap (waiting h (offered trace)) (sym k.both.are_of.controller) ∙ r.rest.none_waits
 
-pub resting-of : (h : Header) (p : Progress) (new : Coupled) (trace : List TraceLine) (run : Run) (k : Holds h p trace run) → IsOffered h trace run (following p.ahead) → until_of new ≡ until_of p.coupled → finished_of new ≡ finished_of p.coupled
+pub resting-of : (h : Header) (p : ReplayState) (new : Coupled) (trace : List TraceLine) (run : Run) (k : LoopInvariant h p trace run) → IsOffered h trace run (following p.ahead) → until_of new ≡ until_of p.coupled → finished_of new ≡ finished_of p.coupled
     → finished_of p.coupled ≡ false → Rests (from_of p.coupled) (until_of p.coupled) h new (offered trace) (p.tally.clocks + passing p.ahead) k.both.steps → IsResting h (record p { coupled = new }) trace run
 resting-of h p new trace run k filled until finished unfinished r = record {
   holds = rested-holds h p new trace run k until finished r;
@@ -113,7 +113,7 @@ resting-of h p new trace run k filled until finished unfinished r = record {
     at-most a b c d e same = omega (arith, e, same)
 
 -- what came back or stands before a barrier is known: the queue is empty, so it is not full
-pub known-of : (h : Header) (p : Progress) (trace : List TraceLine) (run : Run) → IsResting h p trace run → IsKnown p.ahead
+pub known-of : (h : Header) (p : ReplayState) (trace : List TraceLine) (run : Run) → IsResting h p trace run → IsKnown p.ahead
 known-of h p trace run r = λ e. open-ahead (waiting h (offered trace) (controller_steps trace run)) (length (offered trace)) r.none_waits (subst (λ a. IsOffered h trace run (following a)) e r.filled)
   where
     open-ahead : (ws : List Waiting) (n : ℕ) → ws ≡ [] → IsFull n ws ⊎ IsStopped (following Unknown) → ⊥
@@ -125,22 +125,22 @@ known-of h p trace run r = λ e. open-ahead (waiting h (offered trace) (controll
 -- ---- No line is left
 
 -- once no more requests come, no line is left
-ended-of : (p : Progress) (trace : List TraceLine) (run : Run) (h : Header) (now : ℕ) (a : Ahead) → finished_of p.coupled ≡ true → IsAhead p trace run h now a → following a ≡ Ended
+ended-of : (p : ReplayState) (trace : List TraceLine) (run : Run) (h : Header) (now : ℕ) (a : Ahead) → finished_of p.coupled ≡ true → IsAhead p trace run h now a → following a ≡ Ended
 ended-of p trace run h now Unknown is ahead = cc
-ended-of p trace run h now (Waits line) is ahead = let e : finished_of p.coupled ≡ false = ahead.0 in cc
+ended-of p trace run h now (NextLine line) is ahead = let e : finished_of p.coupled ≡ false = ahead.0 in cc
 ended-of p trace run h now (Passes clocks) is ahead = let e : finished_of p.coupled ≡ false = ahead.0 in cc
 ended-of p trace run h now End is ahead = refl
 ended-of p trace run h now (Refused reason) is ahead = refl
 
 none-passing : (a : Ahead) → following a ≡ Ended → passing a ≡ 0
 none-passing Unknown e = cc
-none-passing (Waits line) e = cc
+none-passing (NextLine line) e = cc
 none-passing (Passes clocks) e = cc
 none-passing End e = refl
 none-passing (Refused reason) e = refl
 
 -- where the run may end, it keeps the page and is short
-ended-run : EndLaws → (h : Header) (p : Progress) (trace : List TraceLine) (run : Run) (k : Holds h p trace run) → following p.ahead ≡ Ended → broken_at_end h (from_of p.coupled) (log_of run) ≡ None → IsEnded h trace run (from_of p.coupled)
+ended-run : EndLaws → (h : Header) (p : ReplayState) (trace : List TraceLine) (run : Run) (k : LoopInvariant h p trace run) → following p.ahead ≡ Ended → broken_at_end h (from_of p.coupled) (log_of run) ≡ None → IsEnded h trace run (from_of p.coupled)
 ended-run laws h p trace run k last rules =
     let idle : ℕ = p.tally.clocks + passing p.ahead in
     let stands : ControllerFor h (controller_of p.coupled) (offered trace) idle (controller_steps trace run) = controls laws.issue_laws.agrees h p trace run k in
@@ -154,13 +154,13 @@ ended-run laws h p trace run k last rules =
           (laws.places_few h (controller_of p.coupled) (offered trace) idle (controller_steps trace run) stands);
     }
 
-pub done-of : EndLaws → (h : Header) (p : Progress) (new : Coupled) (trace : List TraceLine) (run : Run) (k : Holds h p trace run) → until_of new ≡ until_of p.coupled → finished_of new ≡ finished_of p.coupled
+pub done-of : EndLaws → (h : Header) (p : ReplayState) (new : Coupled) (trace : List TraceLine) (run : Run) (k : LoopInvariant h p trace run) → until_of new ≡ until_of p.coupled → finished_of new ≡ finished_of p.coupled
     → finished_of p.coupled ≡ true → Rests (from_of p.coupled) (until_of p.coupled) h new (offered trace) (p.tally.clocks + passing p.ahead) k.both.steps
     → broken_at_end h (max (from_of p.coupled) (until_of p.coupled)) (delivered_log k.both.steps) ≡ None → IsDone h (record p { coupled = new }) trace run
 done-of laws h p new trace run k until finished is r rules =
     let f = k.follows in
-    let q : Progress = record p { coupled = new } in
-    let holds : Holds h q trace run = rested-holds h p new trace run k until finished r in
+    let q : ReplayState = record p { coupled = new } in
+    let holds : LoopInvariant h q trace run = rested-holds h p new trace run k until finished r in
     let last : following p.ahead ≡ Ended = ended-of p trace run h f.now p.ahead is f.ahead in
     let under : IsUnderway h trace f.done f.now run Ended = subst (λ a. IsUnderway h trace f.done f.now run a) last f.underway in
     let same : delivered_log k.both.steps ≡ log_of run = same-log laws.issue_laws.one_log laws.issue_laws.log_is h p trace run k in
@@ -176,7 +176,7 @@ done-of laws h p new trace run k until finished is r rules =
 
 -- ---- What a turn leaves
 
-pub turned-of : EndLaws → (h : Header) (p : Progress) (new : Coupled) (trace : List TraceLine) (run : Run) (turn : Turn) (k : Holds h p trace run) → IsOffered h trace run (following p.ahead) → IsSpelled turn
+pub turned-of : EndLaws → (h : Header) (p : ReplayState) (new : Coupled) (trace : List TraceLine) (run : Run) (turn : Turn) (k : LoopInvariant h p trace run) → IsOffered h trace run (following p.ahead) → IsSpelled turn
     → until_of new ≡ until_of p.coupled → finished_of new ≡ finished_of p.coupled
     → After turn (from_of p.coupled) (until_of p.coupled) (finished_of p.coupled) h new (offered trace) (p.tally.clocks + passing p.ahead) k.both.steps → Turned turn h (record p { coupled = new }) trace run
 turned-of laws h p new trace run (Issue clock command id) k filled spelled until finished a = issuing-of laws.issue_laws h p new trace run clock command id k filled spelled until finished a
@@ -185,7 +185,7 @@ turned-of laws h p new trace run Done k filled spelled until finished a = done-o
 
 -- ---- Of what was read and written
 
-under-turned : (h : Header) (p q : Progress) (start left before written : Option (List ℕ)) (u : IsUnder h p start left before written) → q.ahead ≡ p.ahead → Holds h q u.trace u.run → IsUnder h q start left before written
+under-turned : (h : Header) (p q : ReplayState) (start left before written : Option (List ℕ)) (u : IsUnder h p start left before written) → q.ahead ≡ p.ahead → LoopInvariant h q u.trace u.run → IsUnder h q start left before written
 under-turned h p q start left before written u ahead k = record {
   trace = u.trace;
   run = u.run;
@@ -194,10 +194,10 @@ under-turned h p q start left before written u ahead k = record {
   wrote = u.wrote;
 }
 
-pub at-rest-of : (h : Header) (p q : Progress) (start left before written : Option (List ℕ)) (u : IsUnder h p start left before written) → q.ahead ≡ p.ahead → IsResting h q u.trace u.run → IsAtRest h q start left before written
+pub at-rest-of : (h : Header) (p q : ReplayState) (start left before written : Option (List ℕ)) (u : IsUnder h p start left before written) → q.ahead ≡ p.ahead → IsResting h q u.trace u.run → IsAtRest h q start left before written
 unfolding under-turned
 at-rest-of h p q start left before written u ahead r = record { under = under-turned h p q start left before written u ahead r.holds; rests = r }
 
-pub over-of : (h : Header) (p q : Progress) (start left before written : Option (List ℕ)) (u : IsUnder h p start left before written) → q.ahead ≡ p.ahead → IsDone h q u.trace u.run → IsOver h q start left before written
+pub over-of : (h : Header) (p q : ReplayState) (start left before written : Option (List ℕ)) (u : IsUnder h p start left before written) → q.ahead ≡ p.ahead → IsDone h q u.trace u.run → IsOver h q start left before written
 unfolding under-turned
 over-of h p q start left before written u ahead d = record { under = under-turned h p q start left before written u ahead d.holds; finished = d.finished; last = d.last }

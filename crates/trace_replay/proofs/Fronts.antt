@@ -15,10 +15,10 @@ use Rattle.reports.specs.Report.{report}
 use Rattle.ddr_text.specs.Reason.{fault_reason}
 use Rattle.trace_replay.specs.Job.{Traced, clocks_of, trace_from, trace_of, if_read, is_full, continued, ended, at_end, refused_behind}
 use Rattle.trace_replay.specs.Reading.{Continues, IsRead, IsFront}
-use Rattle.trace_replay.specs.Progress.{IsUnder, IsBegun}
-use Rattle.trace_replay.specs.declared.progress.Ahead.{Ahead}
-use Rattle.trace_replay.specs.declared.progress.Ahead.TheVariants.{Unknown, Waits, Passes, End, Refused}
-use Rattle.trace_replay.specs.declared.progress.Progress.{Progress}
+use Rattle.trace_replay.specs.ReplayState.{IsUnder, IsBegun}
+use Rattle.trace_replay.specs.declared.replay_state.Ahead.{Ahead}
+use Rattle.trace_replay.specs.declared.replay_state.Ahead.TheVariants.{Unknown, NextLine, Passes, End, Refused}
+use Rattle.trace_replay.specs.declared.replay_state.ReplayState.{ReplayState}
 use Rattle.ddr_text.proofs.Prefixes.{prefix-whole}
 
 -- these lines are the first ones of a trace
@@ -83,18 +83,18 @@ front-refused g trace reason None left k = tt
 front-refused g trace reason (Some bytes) left k = begins-same trace (trace_of g bytes) (ap (λ (t : Traced). t.lines) k)
 
 -- the line ahead, which was read, too
-pub front-with : (g : Shape) (trace : List TraceLine) (line : TraceLine) (start left : Option (List ℕ)) → IsRead g trace (Waits line) start left → IsFront g (trace ++ line ∷ []) start
+pub front-with : (g : Shape) (trace : List TraceLine) (line : TraceLine) (start left : Option (List ℕ)) → IsRead g trace (NextLine line) start left → IsFront g (trace ++ line ∷ []) start
 front-with g trace line start left k = front-continued g (trace ++ line ∷ []) start left k
 
 pub front-of : (g : Shape) (trace : List TraceLine) (ahead : Ahead) (start left : Option (List ℕ)) → IsRead g trace ahead start left → IsFront g trace start
 front-of g trace Unknown start left k = front-continued g trace start left k
-front-of g trace (Waits line) start left k = front-shorter g trace line start (front-continued g (trace ++ line ∷ []) start left k)
+front-of g trace (NextLine line) start left k = front-shorter g trace line start (front-continued g (trace ++ line ∷ []) start left k)
 front-of g trace (Passes clocks) start left k = front-shorter g trace (Idle clocks) start (front-continued g (trace ++ Idle clocks ∷ []) start left k)
 front-of g trace End start left k = front-ended g trace start left k
 front-of g trace (Refused reason) start left k = front-refused g trace reason start left k
 
 -- a replay that is left as it stands
-pub begun-of : (h : Header) (p : Progress) (start left before written : Option (List ℕ)) → IsUnder h p start left before written → IsBegun h start before written
+pub begun-of : (h : Header) (p : ReplayState) (start left before written : Option (List ℕ)) → IsUnder h p start left before written → IsBegun h start before written
 begun-of h p start left before written u = record {
   trace = u.trace;
   run = u.run;

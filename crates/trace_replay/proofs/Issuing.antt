@@ -29,10 +29,10 @@ use Rattle.reports.specs.Underway.{Ahead as Following, IsUnderway, IsOffered, Is
 use Rattle.trace_replay.specs.Coupled.{Step, StandsFor, Issues, IsDue, controller_of, pending_of, with_pending, issued_as, from_of, until_of, finished_of, log_of as delivered_log, controller_steps as numbered_steps}
 use Rattle.trace_replay.specs.declared.ends.Ends.{Ends as Coupled}
 use Rattle.trace_replay.specs.Reading.{IsRead, IsFront}
-use Rattle.trace_replay.specs.Progress.{following, passing, Holds, IsAhead, IsIssuing, IsUnder, IsBegun, left_of, rest_of}
-use Rattle.trace_replay.specs.declared.progress.Ahead.{Ahead}
-use Rattle.trace_replay.specs.declared.progress.Ahead.TheVariants.{Unknown, Waits, Passes, End, Refused}
-use Rattle.trace_replay.specs.declared.progress.Progress.{Progress}
+use Rattle.trace_replay.specs.ReplayState.{following, passing, LoopInvariant, IsAhead, IsIssuing, IsUnder, IsBegun, left_of, rest_of}
+use Rattle.trace_replay.specs.declared.replay_state.Ahead.{Ahead}
+use Rattle.trace_replay.specs.declared.replay_state.Ahead.TheVariants.{Unknown, NextLine, Passes, End, Refused}
+use Rattle.trace_replay.specs.declared.replay_state.ReplayState.{ReplayState}
 use Rattle.trace_replay.specs.declared.trace_lines.Tally.{Tally}
 use Rattle.ddr_text.proofs.Prefixes.{prefix-behind}
 use Rattle.trace_replay.proofs.Under.{Agrees, Few}
@@ -77,16 +77,16 @@ pub record IssueLaws : Type 0 where
   pub newest : NewestPassed
 
 -- the log of the steps that were delivered is that of the run
-pub same-log : OneLog → LogOfRun → (h : Header) (p : Progress) (trace : List TraceLine) (run : Run) (k : Holds h p trace run) → delivered_log k.both.steps ≡ log_of run
+pub same-log : OneLog → LogOfRun → (h : Header) (p : ReplayState) (trace : List TraceLine) (run : Run) (k : LoopInvariant h p trace run) → delivered_log k.both.steps ≡ log_of run
 same-log one log_is h p trace run k = sym (one k.both.steps) ∙ ap places k.both.are_of.controller ∙ log_is trace run
 
 -- ---- A command is pending
 
 -- what is known of the end and of the line ahead stays
-pub ahead-turned : (p : Progress) (new : Coupled) (trace : List TraceLine) (run : Run) (h : Header) (now : ℕ) (a : Ahead) → until_of new ≡ until_of p.coupled → finished_of new ≡ finished_of p.coupled
+pub ahead-turned : (p : ReplayState) (new : Coupled) (trace : List TraceLine) (run : Run) (h : Header) (now : ℕ) (a : Ahead) → until_of new ≡ until_of p.coupled → finished_of new ≡ finished_of p.coupled
     → IsAhead p trace run h now a → IsAhead (record p { coupled = new }) trace run h now a
 ahead-turned p new trace run h now Unknown until finished is = finished ∙ is
-ahead-turned p new trace run h now (Waits line) until finished is = (finished ∙ is.0, is.1)
+ahead-turned p new trace run h now (NextLine line) until finished is = (finished ∙ is.0, is.1)
 ahead-turned p new trace run h now (Passes clocks) until finished is = (finished ∙ is.0, is.1, is.2, until ∙ is.3)
 ahead-turned p new trace run h now End until finished is = tt
 ahead-turned p new trace run h now (Refused reason) until finished is = tt
@@ -96,7 +96,7 @@ some-anyway None P x = tt
 some-anyway (Some n) P x = x
 
 -- it is issued as a controller does
-issued-of : IssueLaws → (h : Header) (p : Progress) (new : Coupled) (trace : List TraceLine) (run : Run) (clock : ℕ) (command : Command) (id : Option RequestId) (k : Holds h p trace run)
+issued-of : IssueLaws → (h : Header) (p : ReplayState) (new : Coupled) (trace : List TraceLine) (run : Run) (clock : ℕ) (command : Command) (id : Option RequestId) (k : LoopInvariant h p trace run)
     → IsOffered h trace run (following p.ahead) → IsInRange command
     → Issues clock command id (from_of p.coupled) (until_of p.coupled) (finished_of p.coupled) h new (offered trace) (p.tally.clocks + passing p.ahead) k.both.steps
     → IsIssued h trace run (following p.ahead) k.follows.now clock command (number_of id)
@@ -130,7 +130,7 @@ passed-of agrees newest h new offers idle clock command id steps stands pending 
     newest h (controller_of new) offers idle (issued_as clock command id) (numbered_steps steps)
     (subst (λ o. ControllerFor h (controller_of new) offers idle (with_pending o (numbered_steps steps))) pending (agrees new h offers idle steps stands))
 
-pub issuing-of : IssueLaws → (h : Header) (p : Progress) (new : Coupled) (trace : List TraceLine) (run : Run) (clock : ℕ) (command : Command) (id : Option RequestId) (k : Holds h p trace run)
+pub issuing-of : IssueLaws → (h : Header) (p : ReplayState) (new : Coupled) (trace : List TraceLine) (run : Run) (clock : ℕ) (command : Command) (id : Option RequestId) (k : LoopInvariant h p trace run)
     → IsOffered h trace run (following p.ahead) → IsInRange command → until_of new ≡ until_of p.coupled → finished_of new ≡ finished_of p.coupled
     → Issues clock command id (from_of p.coupled) (until_of p.coupled) (finished_of p.coupled) h new (offered trace) (p.tally.clocks + passing p.ahead) k.both.steps
     → IsIssuing h (record p { coupled = new }) trace run clock command id
@@ -164,7 +164,7 @@ same-count : (log : List NumberedStep) → length (places log) ≡ length log
 same-count [] = refl
 same-count (step ∷ log) = ap suc (same-count log)
 
-pub commands-below : Agrees → LogOfRun → PlacesLimit → (h : Header) (p : Progress) (trace : List TraceLine) (run : Run) → Holds h p trace run → p.commands < 2200000000
+pub commands-below : Agrees → LogOfRun → PlacesLimit → (h : Header) (p : ReplayState) (trace : List TraceLine) (run : Run) → LoopInvariant h p trace run → p.commands < 2200000000
 commands-below agrees log_is limit h p trace run k =
     let f = k.follows in
     let few : length (offered trace) ≤ 1048576 = omega (arith, same-length (requests trace), few-asked 1 trace, f.traced.few) in
@@ -175,7 +175,7 @@ commands-below agrees log_is limit h p trace run k =
     omega (arith, most, same, k.commands)
 
 -- one command more is one less to come
-pub left-issued : (p q : Progress) → q.commands ≡ p.commands + 1 → q.tally ≡ p.tally → q.ahead ≡ p.ahead → finished_of q.coupled ≡ finished_of p.coupled → p.commands < 2200000000 → left_of q < left_of p
+pub left-issued : (p q : ReplayState) → q.commands ≡ p.commands + 1 → q.tally ≡ p.tally → q.ahead ≡ p.ahead → finished_of q.coupled ≡ finished_of p.coupled → p.commands < 2200000000 → left_of q < left_of p
 unfolding left_of
 left-issued p q commands tally ahead finished few =
     let rest : rest_of (finished_of q.coupled) q.ahead ≡ rest_of (finished_of p.coupled) p.ahead = ap (λ b. rest_of b q.ahead) finished ∙ ap (rest_of (finished_of p.coupled)) ahead in
@@ -183,7 +183,7 @@ left-issued p q commands tally ahead finished few =
     omega (arith, rest, lines, commands, few)
 
 -- what says how much is left is as it was
-pub left-same : (p q : Progress) → q.commands ≡ p.commands → q.tally ≡ p.tally → q.ahead ≡ p.ahead → finished_of q.coupled ≡ finished_of p.coupled → left_of q ≡ left_of p
+pub left-same : (p q : ReplayState) → q.commands ≡ p.commands → q.tally ≡ p.tally → q.ahead ≡ p.ahead → finished_of q.coupled ≡ finished_of p.coupled → left_of q ≡ left_of p
 unfolding left_of
 left-same p q commands tally ahead finished =
     let rest : rest_of (finished_of q.coupled) q.ahead ≡ rest_of (finished_of p.coupled) p.ahead = ap (λ b. rest_of b q.ahead) finished ∙ ap (rest_of (finished_of p.coupled)) ahead in
@@ -197,9 +197,9 @@ report-more : (h : Header) (trace : List TraceLine) (run : Run) (clock : ℕ) (c
     → flat_map spelled (report h trace run) ++ flat_map spelled (latest h trace run (issue trace clock command id)) ≡ flat_map spelled (report h trace (issue trace clock command id ∷ run))
 report-more h trace run clock command id = sym (flat_map-append spelled (report h trace run) (latest h trace run (issue trace clock command id)))
 
-pub issued-under : (h : Header) (q : Progress) (trace : List TraceLine) (run : Run) (clock : ℕ) (command : Command) (id : Option ℕ) (a : Ahead) (start left before between written : Option (List ℕ))
+pub issued-under : (h : Header) (q : ReplayState) (trace : List TraceLine) (run : Run) (clock : ℕ) (command : Command) (id : Option ℕ) (a : Ahead) (start left before between written : Option (List ℕ))
     → q.ahead ≡ a → IsRead (shape_of h) trace a start left → Appends before between (flat_map spelled (report h trace run))
-    → Holds h q trace (issue trace clock command id ∷ run) → Appends between written (flat_map spelled (latest h trace run (issue trace clock command id))) → IsUnder h q start left before written
+    → LoopInvariant h q trace (issue trace clock command id ∷ run) → Appends between written (flat_map spelled (latest h trace run (issue trace clock command id))) → IsUnder h q start left before written
 issued-under h q trace run clock command id a start left before between written e read so_far k more = record {
   trace = trace;
   run = issue trace clock command id ∷ run;
@@ -214,7 +214,7 @@ KeepsIssued = (h : Header) (trace : List TraceLine) (n now later : ℕ) (run : R
     → IsIssued h trace run ahead now clock command id → now ≤ later → clock < later → IsUnderway h trace n later (issue trace clock command id ∷ run) ahead
 
 -- the step's report lines are cut off
-pub issued-begun : KeepsIssued → (h : Header) (p : Progress) (trace : List TraceLine) (run : Run) (clock : ℕ) (command : Command) (id : Option RequestId) (start before between written : Option (List ℕ))
+pub issued-begun : KeepsIssued → (h : Header) (p : ReplayState) (trace : List TraceLine) (run : Run) (clock : ℕ) (command : Command) (id : Option RequestId) (start before between written : Option (List ℕ))
     → IsFront (shape_of h) trace start → Appends before between (flat_map spelled (report h trace run)) → IsIssuing h p trace run clock command id
     → AppendsPrefix between written (flat_map spelled (latest h trace run (issue trace clock command (number_of id)))) → IsBegun h start before written
 issued-begun keeps h p trace run clock command id start before between written front so_far i cut = record {

@@ -112,7 +112,7 @@ pub refused-read : {E : Type 0} (opening : Opening) (reason : ℕ) → opening �
 refused-read opening reason is e = let f : opening ≡ opens.Failed = cc in let k : opens.Refused reason ≡ opens.Failed = sym is ∙ f in cc
 
 pub memory-read : {E : Type 0} (answer : Result Opening E) (error : E) → answer ≡ Err error → answer ≡ Ok opens.Failed → ⊥
-memory-read answer error is e = let k : ◌≡◌ {A = Result Opening E} (Err error) (Ok opens.Failed) = sym is ∙ e in cc
+memory-read {E = E} answer error is e = let k : ◌≡◌ {A = Result Opening E} (Err error) (Ok opens.Failed) = sym is ∙ e in cc
 
 -- ---- A job with nothing to refuse is not refused
 

@@ -23,13 +23,13 @@ use Rattle.trace_replay.specs.Coupled.{from_of}
 use Rattle.trace_replay.specs.Ending.{end_lines, reason_in}
 use Rattle.trace_replay.specs.Job.{trace_of, IsTrace, IsUsedUp}
 use Rattle.trace_replay.specs.Reading.{IsRead, IsFront}
-use Rattle.trace_replay.specs.Progress.{following, Holds, IsUnder, IsOver, IsLeftOff, IsBegun}
+use Rattle.trace_replay.specs.ReplayState.{following, LoopInvariant, IsUnder, IsOver, IsStoppedByReadFault, IsBegun}
 use Rattle.trace_replay.specs.Replay.{Starts, refusal_of, StopsServing, IsTraced, TraceAnswers, TraceServed}
 use Rattle.ddr_text.specs.Stop.{status_of, WriteCause}
 use Rattle.trace_replay.specs.declared.ending.Ending.{Ending}
-use Rattle.trace_replay.specs.declared.progress.Ahead.{Ahead}
-use Rattle.trace_replay.specs.declared.progress.Ahead.TheVariants.{Unknown, Waits, Passes, End, Refused}
-use Rattle.trace_replay.specs.declared.progress.Progress.{Progress}
+use Rattle.trace_replay.specs.declared.replay_state.Ahead.{Ahead}
+use Rattle.trace_replay.specs.declared.replay_state.Ahead.TheVariants.{Unknown, NextLine, Passes, End, Refused}
+use Rattle.trace_replay.specs.declared.replay_state.ReplayState.{ReplayState}
 use Rattle.ddr_text.specs.declared.stop.Stop.{Stop}
 use Rattle.ddr_text.specs.declared.stop.Stop.TheVariants.{ReadFault, WriteFault, OutOfMemory}
 use Rattle.ddr_text.proofs.Outcomes.{none-left}
@@ -106,7 +106,7 @@ starting laws OutOfMemory h text start left before after a b cause s = inl (star
 -- ---- Where serving stopped
 
 -- before the first turn no line was written
-pub under-start : (h : Header) (p : Progress) (start left written : Option (List ℕ)) → Holds h p [] [] → IsRead (shape_of h) [] p.ahead start left → IsUnder h p start left written written
+pub under-start : (h : Header) (p : ReplayState) (start left written : Option (List ℕ)) → LoopInvariant h p [] [] → IsRead (shape_of h) [] p.ahead start left → IsUnder h p start left written written
 under-start h p start left written k r = record { trace = []; run = []; holds = k; read = r; wrote = Appends-nil written }
 
 pub stops-at-once : ReportLaws → (stop : Stop) (h : Header) (text : List ℕ) (start left before : Option (List ℕ)) → stop ≡ OutOfMemory → TraceAnswers (status_of stop) h text start left before before
@@ -117,7 +117,7 @@ stops-at-once laws stop h text start left before is =
 pub stops-opening : ReportLaws → (stop : Stop) (h : Header) (text : List ℕ) (start left before after : Option (List ℕ)) (a b : ℕ) → WriteCause a b stop → AppendsPrefix before after text → TraceAnswers (status_of stop) h text start left before after
 stops-opening laws stop h text start left before after a b cause cut = starting laws stop h text start left before after a b cause (opening-started h text start before after cut)
 
-left-off : (h : Header) (text : List ℕ) (start left before now after : Option (List ℕ)) → Appends before now text → IsLeftOff h start left now after → TraceAnswers (status_of ReadFault) h text start left before after
+left-off : (h : Header) (text : List ℕ) (start left before now after : Option (List ℕ)) → Appends before now text → IsStoppedByReadFault h start left now after → TraceAnswers (status_of ReadFault) h text start left before after
 left-off h text start left before now after first k = inr (
   k.trace,
   k.read,
@@ -138,7 +138,7 @@ stops-serving laws OutOfMemory h text start left before now after first k = inl 
 
 traced-whole : (g : Shape) (trace : List TraceLine) (ahead : Ahead) (start left : Option (List ℕ)) → following ahead ≡ Ended → IsRead g trace ahead start left → IsTraced g start trace (reason_in ahead)
 traced-whole g trace Unknown start left e k = cc
-traced-whole g trace (Waits line) start left e k = cc
+traced-whole g trace (NextLine line) start left e k = cc
 traced-whole g trace (Passes clocks) start left e k = cc
 traced-whole g trace End None left e k = tt
 traced-whole g trace End (Some bytes) left e k = k.0
@@ -147,15 +147,15 @@ traced-whole g trace (Refused reason) (Some bytes) left e k = k
 
 used-up : (g : Shape) (trace : List TraceLine) (ahead : Ahead) (start : Option (List ℕ)) (held : List ℕ) (left : Option (List ℕ)) → following ahead ≡ Ended → IsRead g trace ahead start (next_bytes held left) → reason_in ahead ≡ None → IsUsedUp start left
 used-up g trace Unknown start held left e k none = cc
-used-up g trace (Waits line) start held left e k none = cc
+used-up g trace (NextLine line) start held left e k none = cc
 used-up g trace (Passes clocks) start held left e k none = cc
 used-up g trace End None held left e k none = tt
 used-up g trace End (Some bytes) held left e k none = none-left held left k.1
 used-up g trace (Refused reason) start held left e k none = cc
 
-pub served : ReportLaws → (h : Header) (text : List ℕ) (p : Progress) (start before now after : Option (List ℕ)) (held : List ℕ) (left : Option (List ℕ)) (ending : Ending) → Appends before now text → IsOver h p start (next_bytes held left) now after
+pub served : ReportLaws → (h : Header) (text : List ℕ) (p : ReplayState) (start before now after : Option (List ℕ)) (held : List ℕ) (left : Option (List ℕ)) (ending : Ending) → Appends before now text → IsOver h p start (next_bytes held left) now after
     → ending.clock ≡ from_of p.coupled → is_some ending.refusal ≡ is_some (reason_in p.ahead)
-    → ((k : Header) (trace : List TraceLine) (run : Run) → Holds k p trace run → end_lines ending ≡ stats k trace run ++ EndLine (from_of p.coupled) ∷ refusal_lines (refusal_of trace (reason_in p.ahead)))
+    → ((k : Header) (trace : List TraceLine) (run : Run) → LoopInvariant k p trace run → end_lines ending ≡ stats k trace run ++ EndLine (from_of p.coupled) ∷ refusal_lines (refusal_of trace (reason_in p.ahead)))
     → TraceServed h text start left before after ending
 served laws h text p start before now after held left ending first o clock shown lines =
     let u = o.under in

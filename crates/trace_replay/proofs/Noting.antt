@@ -25,9 +25,9 @@ use Rattle.reports.specs.Requests.{Request, requests}
 use Rattle.reports.specs.Runs.{Run, Served, Step as RunStep, Issues, IsNext, is_served, ready, held}
 use Rattle.reports.specs.Sound.{Sound}
 use Rattle.reports.specs.Underway.{issue}
-use Rattle.trace_replay.specs.Held.{Kept, Has, request_at, with_outcome}
-use Rattle.trace_replay.specs.Progress.{outcome_of, kept_as, kept_of, bytes_at, bytes_in, outcome_with, noted, noted_in}
-use Rattle.trace_replay.specs.declared.held.HeldRequest.{HeldRequest}
+use Rattle.trace_replay.specs.RequestBuffer.{Kept, Has, request_at, with_outcome}
+use Rattle.trace_replay.specs.ReplayState.{outcome_of, kept_as, kept_of, bytes_at, bytes_in, outcome_with, noted, noted_in}
+use Rattle.trace_replay.specs.declared.request_buffer.HeldRequest.{HeldRequest}
 use Rattle.trace_replay.proofs.Taken.{same-length}
 use Rattle.trace_replay.specs.Delivery.{DeliveryLaws}
 

@@ -34,22 +34,22 @@ use Rattle.trace_replay.specs.Coupled.{Step, Flips as Turns, StandsFor, pending_
 use Rattle.trace_replay.specs.declared.ends.Ends.{Ends as Coupled}
 use Rattle.trace_replay.specs.Job.{MOST, IsTrace}
 use Rattle.trace_replay.specs.Reading.{IsMore, IsRead}
-use Rattle.trace_replay.specs.Progress.{following, passing, taken, kept_as, kept_of, Follows, Holds, IsUnder, IsResting, IsAtRest, IsBegun, IsAhead, rest_of, left_of}
+use Rattle.trace_replay.specs.ReplayState.{following, passing, taken, kept_as, kept_of, Follows, LoopInvariant, IsUnder, IsResting, IsAtRest, IsBegun, IsAhead, rest_of, left_of}
 use Rattle.trace_replay.specs.declared.trace_lines.Tally.{Tally}
-use Rattle.trace_replay.specs.declared.progress.Ahead.{Ahead}
-use Rattle.trace_replay.specs.declared.progress.Ahead.TheVariants.{Unknown, Waits, Passes, End, Refused}
-use Rattle.trace_replay.specs.declared.progress.Progress.{Progress}
+use Rattle.trace_replay.specs.declared.replay_state.Ahead.{Ahead}
+use Rattle.trace_replay.specs.declared.replay_state.Ahead.TheVariants.{Unknown, NextLine, Passes, End, Refused}
+use Rattle.trace_replay.specs.declared.replay_state.ReplayState.{ReplayState}
 
 -- ---- The end is announced
 
-over-ahead : (p q : Progress) (trace : List TraceLine) (run : Run) (h : Header) (now : ℕ) (a : Ahead) → following a ≡ Ended → IsAhead q trace run h now a
+over-ahead : (p q : ReplayState) (trace : List TraceLine) (run : Run) (h : Header) (now : ℕ) (a : Ahead) → following a ≡ Ended → IsAhead q trace run h now a
 over-ahead p q trace run h now Unknown e = cc
-over-ahead p q trace run h now (Waits line) e = cc
+over-ahead p q trace run h now (NextLine line) e = cc
 over-ahead p q trace run h now (Passes clocks) e = cc
 over-ahead p q trace run h now End e = tt
 over-ahead p q trace run h now (Refused reason) e = tt
 
-pub finished-under : (h : Header) (p : Progress) (ended : Coupled) (start left before written : Option (List ℕ)) → following p.ahead ≡ Ended
+pub finished-under : (h : Header) (p : ReplayState) (ended : Coupled) (start left before written : Option (List ℕ)) → following p.ahead ≡ Ended
     → ((offers : List Asked) (idle : ℕ) (steps : List Step) → StandsFor p.coupled h offers idle steps → StandsFor ended h offers idle steps)
     → pending_of ended ≡ pending_of p.coupled → from_of ended ≡ from_of p.coupled → IsUnder h p start left before written → IsUnder h (record p { coupled = ended }) start left before written
 finished-under h p ended start left before written e stands pending from u =
@@ -83,12 +83,12 @@ finished-under h p ended start left before written e stands pending from u =
 
 rest-end : (a : Ahead) → following a ≡ Ended → rest_of false a ≡ 2
 rest-end Unknown e = cc
-rest-end (Waits line) e = cc
+rest-end (NextLine line) e = cc
 rest-end (Passes clocks) e = cc
 rest-end End e = refl
 rest-end (Refused reason) e = refl
 
-pub left-finished : (p : Progress) (ended : Coupled) → following p.ahead ≡ Ended → finished_of p.coupled ≡ false → finished_of ended ≡ true → left_of (record p { coupled = ended }) < left_of p
+pub left-finished : (p : ReplayState) (ended : Coupled) → following p.ahead ≡ Ended → finished_of p.coupled ≡ false → finished_of ended ≡ true → left_of (record p { coupled = ended }) < left_of p
 unfolding left_of
 left-finished p ended e was is =
     let a : rest_of (finished_of ended) p.ahead ≡ 0 = ap (λ b. rest_of b p.ahead) is in
@@ -98,7 +98,7 @@ left-finished p ended e was is =
 -- ---- Clocks pass
 
 pub idled-under : ((h : Header) (trace : List TraceLine) (n now later : ℕ) (run : Run) (ahead : Following) → IsUnderway h trace n now run ahead → now ≤ later → IsUnderway h trace n later run ahead)
-    → (h : Header) (p : Progress) (idled : Coupled) (clocks : ℕ) (start left before written : Option (List ℕ)) → p.ahead ≡ Waits (Idle clocks)
+    → (h : Header) (p : ReplayState) (idled : Coupled) (clocks : ℕ) (start left before written : Option (List ℕ)) → p.ahead ≡ NextLine (Idle clocks)
     → ((offers : List Asked) (idle : ℕ) (steps : List Step) → StandsFor p.coupled h offers idle steps → StandsFor idled h offers (idle + clocks) steps)
     → pending_of idled ≡ pending_of p.coupled → from_of idled ≡ from_of p.coupled → until_of idled ≡ from_of p.coupled + clocks → finished_of idled ≡ finished_of p.coupled
     → IsAtRest h p start left before written → IsUnder h (record p { coupled = idled; ahead = Passes clocks }) start left before written
@@ -106,7 +106,7 @@ idled-under later h p idled clocks start left before written e stands pending fr
     let u = a.under in
     let k = u.holds in
     let f = k.follows in
-    let was : IsAhead p u.trace u.run h f.now (Waits (Idle clocks)) = subst (λ v. IsAhead p u.trace u.run h f.now v) e f.ahead in
+    let was : IsAhead p u.trace u.run h f.now (NextLine (Idle clocks)) = subst (λ v. IsAhead p u.trace u.run h f.now v) e f.ahead in
     let none : passing p.ahead ≡ 0 = ap passing e in
     let total : p.tally.clocks + passing p.ahead + clocks ≡ p.tally.clocks + clocks = omega (arith, none) in
     record {
@@ -139,11 +139,11 @@ idled-under later h p idled clocks start left before written e stands pending fr
       wrote = u.wrote;
     }
 
-pub left-idled : (p q : Progress) (clocks : ℕ) → p.ahead ≡ Waits (Idle clocks) → q.ahead ≡ Passes clocks → q.tally ≡ p.tally → q.commands ≡ p.commands → finished_of q.coupled ≡ finished_of p.coupled → finished_of p.coupled ≡ false → left_of q < left_of p
+pub left-idled : (p q : ReplayState) (clocks : ℕ) → p.ahead ≡ NextLine (Idle clocks) → q.ahead ≡ Passes clocks → q.tally ≡ p.tally → q.commands ≡ p.commands → finished_of q.coupled ≡ finished_of p.coupled → finished_of p.coupled ≡ false → left_of q < left_of p
 unfolding left_of
 left-idled p q clocks e is tally commands finished was =
     let a : rest_of (finished_of q.coupled) q.ahead ≡ 1 = ap (rest_of (finished_of q.coupled)) is ∙ ap (λ b. rest_of b (Passes clocks)) (finished ∙ was) in
-    let b : rest_of (finished_of p.coupled) p.ahead ≡ 2 = ap (rest_of (finished_of p.coupled)) e ∙ ap (λ b. rest_of b (Waits (Idle clocks))) was in
+    let b : rest_of (finished_of p.coupled) p.ahead ≡ 2 = ap (rest_of (finished_of p.coupled)) e ∙ ap (λ b. rest_of b (NextLine (Idle clocks))) was in
     let lines : q.tally.lines ≡ p.tally.lines = ap (λ (t : Tally). t.lines) tally in
     omega (arith, a, b, lines, commands)
 
@@ -179,7 +179,7 @@ kept-same device parts h trace t run sound none =
     ap (λ l. record { first = length (ready (requests trace) run) + 1; items = l }) olds
     ∙ ap (λ rs. kept_of h (trace ++ t ∷ []) run (length (ready rs run)) (held rs run)) same
 
-pub passed-under : IdleLaws → (h : Header) (p : Progress) (clocks : ℕ) (start left before written : Option (List ℕ)) → p.ahead ≡ Passes clocks → IsAtRest h p start left before written → IsUnder h (taken p clocks) start left before written
+pub passed-under : IdleLaws → (h : Header) (p : ReplayState) (clocks : ℕ) (start left before written : Option (List ℕ)) → p.ahead ≡ Passes clocks → IsAtRest h p start left before written → IsUnder h (taken p clocks) start left before written
 passed-under laws h p clocks start left before written e a =
     let u = a.under in
     let k = u.holds in
@@ -228,14 +228,14 @@ passed-under laws h p clocks start left before written e a =
     }
 
 -- a line was taken: less is left
-pub left-taken : (p q : Progress) → q.tally.lines ≡ p.tally.lines + 1 → q.commands ≡ p.commands → p.tally.lines < MOST → left_of q < left_of p
+pub left-taken : (p q : ReplayState) → q.tally.lines ≡ p.tally.lines + 1 → q.commands ≡ p.commands → p.tally.lines < MOST → left_of q < left_of p
 unfolding left_of
 left-taken p q lines commands few = let a = most (finished_of q.coupled) q.ahead in omega (arith, a, lines, commands, few)
   where
     most : (b : Bool) (v : Ahead) → rest_of b v ≤ 2
     most true v = omega arith
     most false Unknown = omega arith
-    most false (Waits line) = omega arith
+    most false (NextLine line) = omega arith
     most false (Passes clocks) = omega arith
     most false End = omega arith
     most false (Refused reason) = omega arith
@@ -264,34 +264,34 @@ pub record FlipLaws : Type 0 where
   pub none_held : NoneHeld
   pub turns : (h : Header) (trace : List TraceLine) (run : Run) (number line device bit : ℕ) → slice_get trace (number - 1) ≡ Some (Flip line device bit) → device_steps h trace (Flips number ∷ run) ≡ Turned (place_of line (shape_of h)) device bit ∷ device_steps h trace run
 
-pub flip-traced : FlipLaws → (h : Header) (p : Progress) (trace : List TraceLine) (run : Run) (line device bit : ℕ) → Follows h p trace run → IsMore (shape_of h) p.tally (Flip line device bit) → IsTrace (shape_of h) (trace ++ Flip line device bit ∷ [])
+pub flip-traced : FlipLaws → (h : Header) (p : ReplayState) (trace : List TraceLine) (run : Run) (line device bit : ℕ) → Follows h p trace run → IsMore (shape_of h) p.tally (Flip line device bit) → IsTrace (shape_of h) (trace ++ Flip line device bit ∷ [])
 flip-traced laws h p trace run line device bit f m = record {
   inside = laws.inside (shape_of h) trace (Flip line device bit) f.traced.inside m.inside;
   few = omega (arith, length-append trace (Flip line device bit ∷ []), f.tally.lines, m.few);
   idle = let s = ap sum (laws.idle trace line device bit) in omega (arith, s, f.traced.idle);
 }
 
-pub flip-more : (h : Header) (p : Progress) (trace : List TraceLine) (run : Run) (line device bit : ℕ) → p.ahead ≡ Waits (Flip line device bit) → Follows h p trace run → IsMore (shape_of h) p.tally (Flip line device bit)
+pub flip-more : (h : Header) (p : ReplayState) (trace : List TraceLine) (run : Run) (line device bit : ℕ) → p.ahead ≡ NextLine (Flip line device bit) → Follows h p trace run → IsMore (shape_of h) p.tally (Flip line device bit)
 flip-more h p trace run line device bit e f =
-    let was : IsAhead p trace run h f.now (Waits (Flip line device bit)) = subst (λ v. IsAhead p trace run h f.now v) e f.ahead in
+    let was : IsAhead p trace run h f.now (NextLine (Flip line device bit)) = subst (λ v. IsAhead p trace run h f.now v) e f.ahead in
     subst (λ g. IsMore g p.tally (Flip line device bit)) f.geometry was.1
 
 -- its bit is one of the header that both ends hold
-pub flip-bit : (h : Header) (p : Progress) (trace : List TraceLine) (run : Run) (own : Header) (place : Place) (line device bit : ℕ) → own ≡ h → p.ahead ≡ Waits (Flip line device bit) → IsInside place p.g → Follows h p trace run
+pub flip-bit : (h : Header) (p : ReplayState) (trace : List TraceLine) (run : Run) (own : Header) (place : Place) (line device bit : ℕ) → own ≡ h → p.ahead ≡ NextLine (Flip line device bit) → IsInside place p.g → Follows h p trace run
     → IsBit own place device bit
 flip-bit h p trace run own place line device bit same e inside f =
     let more = flip-more h p trace run line device bit e f in
     subst (λ (x : Header). IsBit x place device bit) (sym same)
     (record { inside = subst (λ g. IsInside place g) f.geometry inside; of_four = more.inside.1; in_word = more.inside.2 })
 
-pub flip-holds : FlipLaws → (h : Header) (p : Progress) (turned : Coupled) (place : Place) (trace : List TraceLine) (run : Run) (line device bit : ℕ) → p.ahead ≡ Waits (Flip line device bit) → place ≡ place_of line p.g
+pub flip-holds : FlipLaws → (h : Header) (p : ReplayState) (turned : Coupled) (place : Place) (trace : List TraceLine) (run : Run) (line device bit : ℕ) → p.ahead ≡ NextLine (Flip line device bit) → place ≡ place_of line p.g
     → ((offers : List Asked) (idle : ℕ) (steps : List Step) → StandsFor p.coupled h offers idle steps → StandsFor turned h offers idle (Turns place device bit ∷ steps))
     → pending_of turned ≡ pending_of p.coupled → from_of turned ≡ from_of p.coupled → finished_of turned ≡ finished_of p.coupled → IsResting h p trace run
-    → Holds h (taken (record p { coupled = turned }) 0) (trace ++ Flip line device bit ∷ []) (Flips (1 + length trace) ∷ run)
+    → LoopInvariant h (taken (record p { coupled = turned }) 0) (trace ++ Flip line device bit ∷ []) (Flips (1 + length trace) ∷ run)
 flip-holds laws h p turned place trace run line device bit e at stands pending from finished a =
     let k = a.holds in
     let f = k.follows in
-    let was : IsAhead p trace run h f.now (Waits (Flip line device bit)) = subst (λ v. IsAhead p trace run h f.now v) e f.ahead in
+    let was : IsAhead p trace run h f.now (NextLine (Flip line device bit)) = subst (λ v. IsAhead p trace run h f.now v) e f.ahead in
     let more = flip-more h p trace run line device bit e f in
     let traced = flip-traced laws h p trace run line device bit f more in
     let under : IsUnderway h trace f.done f.now run (NextLine (Flip line device bit)) = subst (λ v. IsUnderway h trace f.done f.now run (following v)) e f.underway in
@@ -337,7 +337,7 @@ flip-holds laws h p turned place trace run line device bit e at stands pending f
     }
 
 -- the F line behind the report so far
-pub flip-report : FlipLaws → (h : Header) (p : Progress) (trace : List TraceLine) (run : Run) (line device bit : ℕ) → Holds h p trace run
+pub flip-report : FlipLaws → (h : Header) (p : ReplayState) (trace : List TraceLine) (run : Run) (line device bit : ℕ) → LoopInvariant h p trace run
     → flat_map spelled (report h (trace ++ Flip line device bit ∷ []) (Flips (1 + length trace) ∷ run)) ≡ flat_map spelled (report h trace run) ++ spelled (FlipLine p.last line device bit)
 flip-report laws h p trace run line device bit k =
     ap (λ l. flat_map spelled (l ++ latest h (trace ++ Flip line device bit ∷ []) run (Flips (1 + length trace)))) (laws.report_is h trace (Flip line device bit ∷ []) run k.follows.underway.sound)
@@ -346,7 +346,7 @@ flip-report laws h p trace run line device bit k =
     ∙ ap (λ l. flat_map spelled (report h trace run) ++ l) (append-nil (spelled (FlipLine (last_clock (log_of run)) line device bit)) ∙ ap (λ n. spelled (FlipLine n line device bit)) (sym k.last))
 
 -- the F line is done, and its report line was written
-pub flip-under : FlipLaws → (h : Header) (p : Progress) (turned : Coupled) (place : Place) (line device bit : ℕ) (start left before written after : Option (List ℕ)) → p.ahead ≡ Waits (Flip line device bit) → place ≡ place_of line p.g
+pub flip-under : FlipLaws → (h : Header) (p : ReplayState) (turned : Coupled) (place : Place) (line device bit : ℕ) (start left before written after : Option (List ℕ)) → p.ahead ≡ NextLine (Flip line device bit) → place ≡ place_of line p.g
     → ((offers : List Asked) (idle : ℕ) (steps : List Step) → StandsFor p.coupled h offers idle steps → StandsFor turned h offers idle (Turns place device bit ∷ steps))
     → pending_of turned ≡ pending_of p.coupled → from_of turned ≡ from_of p.coupled → finished_of turned ≡ finished_of p.coupled
     → Appends written after (spelled (FlipLine p.last line device bit)) → IsAtRest h p start left before written → IsUnder h (taken (record p { coupled = turned }) 0) start left before after
@@ -362,7 +362,7 @@ flip-under laws h p turned place line device bit start left before written after
     }
 
 -- the F line is done, and of its report line a part was written
-pub flip-begun : FlipLaws → (h : Header) (p : Progress) (line device bit : ℕ) (start left before written after : Option (List ℕ)) → p.ahead ≡ Waits (Flip line device bit)
+pub flip-begun : FlipLaws → (h : Header) (p : ReplayState) (line device bit : ℕ) (start left before written after : Option (List ℕ)) → p.ahead ≡ NextLine (Flip line device bit)
     → AppendsPrefix written after (spelled (FlipLine p.last line device bit)) → IsAtRest h p start left before written → IsBegun h start before after
 flip-begun laws h p line device bit start left before written after e wrote a =
     let u = a.under in

@@ -30,14 +30,14 @@ use Rattle.trace_replay.specs.Coupled.{Step, StandsFor, pending_of, controller_o
 use Rattle.trace_replay.proofs.Under.{Agrees}
 use Rattle.trace_replay.specs.declared.trace_lines.Tally.{Tally}
 use Rattle.trace_replay.specs.declared.ends.Ends.{Ends as Coupled}
-use Rattle.trace_replay.specs.Held.{Kept, next_of}
+use Rattle.trace_replay.specs.RequestBuffer.{Kept, next_of}
 use Rattle.trace_replay.specs.Job.{IsTrace}
 use Rattle.trace_replay.specs.Reading.{IsTally, IsMore, IsRead}
-use Rattle.trace_replay.specs.Progress.{outcome_of, Asks, IsAsked, taken, following, passing, kept_as, kept_of, Follows, Holds, IsUnder, IsAhead}
-use Rattle.trace_replay.specs.declared.held.Outcome.TheVariants.{Waits as Unserved}
-use Rattle.trace_replay.specs.declared.progress.Ahead.{Ahead}
-use Rattle.trace_replay.specs.declared.progress.Ahead.TheVariants.{Unknown, Waits, Passes, End, Refused}
-use Rattle.trace_replay.specs.declared.progress.Progress.{Progress}
+use Rattle.trace_replay.specs.ReplayState.{outcome_of, Asks, IsAsked, taken, following, passing, kept_as, kept_of, Follows, LoopInvariant, IsUnder, IsAhead}
+use Rattle.trace_replay.specs.declared.request_buffer.Outcome.TheVariants.{Unserved}
+use Rattle.trace_replay.specs.declared.replay_state.Ahead.{Ahead}
+use Rattle.trace_replay.specs.declared.replay_state.Ahead.TheVariants.{Unknown, NextLine, Passes, End, Refused}
+use Rattle.trace_replay.specs.declared.replay_state.ReplayState.{ReplayState}
 
 -- ---- A longer trace
 
@@ -146,14 +146,14 @@ held-few parts alike ranked none oldest h trace run sound few = go (waiting h (o
         two (inl x) f g = f x
         two (inr x) f g = g x
 
-pub next-few : Parts → (h : Header) (p : Progress) (trace : List TraceLine) (run : Run) → Follows h p trace run → next_of p.held ≤ 1048577
+pub next-few : Parts → (h : Header) (p : ReplayState) (trace : List TraceLine) (run : Run) → Follows h p trace run → next_of p.held ≤ 1048577
 next-few parts h p trace run f =
     let total : length (ready (requests trace) run) + length (held (requests trace) run) ≡ length (requests trace) = sym (length-append (ready (requests trace) run) (held (requests trace) run)) ∙ ap length (parts (requests trace) run) in
     let first : p.held.first ≡ length (ready (requests trace) run) + 1 = ap (λ (k : Kept). k.first) f.kept in
     let items : length p.held.items ≡ length (held (requests trace) run) = ap (λ (k : Kept). length k.items) f.kept ∙ kept-length h trace run (held (requests trace) run) in
     omega (arith, total, first, items, few-asked 1 trace, f.traced.few)
 
-pub kept-count : (h : Header) (p : Progress) (trace : List TraceLine) (run : Run) → Follows h p trace run → length p.held.items ≡ length (held (requests trace) run)
+pub kept-count : (h : Header) (p : ReplayState) (trace : List TraceLine) (run : Run) → Follows h p trace run → length p.held.items ≡ length (held (requests trace) run)
 kept-count h p trace run f = ap (λ (k : Kept). length k.items) f.kept ∙ kept-length h trace run (held (requests trace) run)
 
 -- ---- A request more
@@ -204,12 +204,12 @@ pub record Laws : Type 0 where
   pub within_is : Within
 
 -- the controller stands for the run
-pub controls : Agrees → (h : Header) (p : Progress) (trace : List TraceLine) (run : Run) → Holds h p trace run → ControllerFor h (controller_of p.coupled) (offered trace) (p.tally.clocks + passing p.ahead) (controller_steps trace run)
+pub controls : Agrees → (h : Header) (p : ReplayState) (trace : List TraceLine) (run : Run) → LoopInvariant h p trace run → ControllerFor h (controller_of p.coupled) (offered trace) (p.tally.clocks + passing p.ahead) (controller_steps trace run)
 controls agrees h p trace run k =
     let same : with_pending (pending_of p.coupled) (numbered_steps k.both.steps) ≡ controller_steps trace run = ap (λ o. with_pending o (numbered_steps k.both.steps)) k.none_pending ∙ k.both.are_of.controller in
     subst (λ l. ControllerFor h (controller_of p.coupled) (offered trace) (p.tally.clocks + passing p.ahead) l) same (agrees p.coupled h (offered trace) (p.tally.clocks + passing p.ahead) k.both.steps k.both.stands)
 
-pub room : Laws → (h : Header) (p : Progress) (trace : List TraceLine) (run : Run) (k : Holds h p trace run) → (IsFull (length (offered trace)) (waiting h (offered trace) (with_pending (pending_of p.coupled) (numbered_steps k.both.steps))) → ⊥) → length p.held.items < 64
+pub room : Laws → (h : Header) (p : ReplayState) (trace : List TraceLine) (run : Run) (k : LoopInvariant h p trace run) → (IsFull (length (offered trace)) (waiting h (offered trace) (with_pending (pending_of p.coupled) (numbered_steps k.both.steps))) → ⊥) → length p.held.items < 64
 room laws h p trace run k free =
     let same : with_pending (pending_of p.coupled) (numbered_steps k.both.steps) ≡ controller_steps trace run = ap (λ o. with_pending o (numbered_steps k.both.steps)) k.none_pending ∙ k.both.are_of.controller in
     let free_now : IsFull (length (offered trace)) (waiting h (offered trace) (controller_steps trace run)) → ⊥ = subst (λ l. IsFull (length (offered trace)) (waiting h (offered trace) l) → ⊥) same free in
@@ -247,14 +247,14 @@ get-last (x ∷ xs) t zero e = absurd (omega (arith, e))
 get-last (x ∷ xs) t (suc n) e = get-last xs t n (omega (arith, e))
 
 -- the request is not served yet
-fresh : Laws → (h : Header) (p : Progress) (trace : List TraceLine) (run : Run) (t : TraceLine) (r : Request) (k : Holds h p trace run) → Sound h (trace ++ t ∷ []) run → requests (trace ++ t ∷ []) ≡ requests trace ++ r ∷ [] → is_served r.number run ≡ false
+fresh : Laws → (h : Header) (p : ReplayState) (trace : List TraceLine) (run : Run) (t : TraceLine) (r : Request) (k : LoopInvariant h p trace run) → Sound h (trace ++ t ∷ []) run → requests (trace ++ t ∷ []) ≡ requests trace ++ r ∷ [] → is_served r.number run ≡ false
 fresh laws h p trace run t r k sound e =
     let rank_is : rank (trace ++ t ∷ []) r.number ≡ length (requests trace) + 1 = laws.ranked (trace ++ t ∷ []) (requests trace) [] r e in
     sym (laws.alike h (trace ++ t ∷ []) run (requests trace) [] r sound e)
     ∙ ap (λ l. is_served_number (rank (trace ++ t ∷ []) r.number) l) (laws.steps h trace (t ∷ []) run k.follows.underway.sound)
     ∙ laws.known h (controller_of p.coupled) (offered trace) (p.tally.clocks + passing p.ahead) (controller_steps trace run) (controls laws.agrees h p trace run k) (rank (trace ++ t ∷ []) r.number) (omega (arith, rank_is, same-length (requests trace)))
 
-kept-more : Laws → (h : Header) (p : Progress) (trace : List TraceLine) (run : Run) (t : TraceLine) (request : Asked) (bytes : Option (List ℕ)) (k : Holds h p trace run) → Asks t request bytes → Sound h (trace ++ t ∷ []) run → requests (trace ++ t ∷ []) ≡ requests trace ++ record { number = 1 + length trace; line = request.line; kind = request.kind } ∷ []
+kept-more : Laws → (h : Header) (p : ReplayState) (trace : List TraceLine) (run : Run) (t : TraceLine) (request : Asked) (bytes : Option (List ℕ)) (k : LoopInvariant h p trace run) → Asks t request bytes → Sound h (trace ++ t ∷ []) run → requests (trace ++ t ∷ []) ≡ requests trace ++ record { number = 1 + length trace; line = request.line; kind = request.kind } ∷ []
     → record { first = p.held.first; items = p.held.items ++ record { number = p.tally.lines + 1; request = request; bytes = bytes; outcome = Unserved } ∷ [] }
     ≡ kept_of h (trace ++ t ∷ []) run (length (ready (requests (trace ++ t ∷ [])) run)) (held (requests (trace ++ t ∷ [])) run)
 kept-more laws h p trace run t request bytes k asks sound is =
@@ -289,11 +289,11 @@ asked-line g (Flip line device bit) request bytes inside a = absurd a
 asked-line g (Idle clocks) request bytes inside a = absurd a
 
 -- what the line ahead asks for is a line of the header that both ends hold
-pub asked-inside : (h : Header) (p : Progress) (trace : List TraceLine) (run : Run) (own : Header) (request : Asked) (bytes : Option (List ℕ)) → own ≡ h → Holds h p trace run → IsAsked p.ahead request bytes
+pub asked-inside : (h : Header) (p : ReplayState) (trace : List TraceLine) (run : Run) (own : Header) (request : Asked) (bytes : Option (List ℕ)) → own ≡ h → LoopInvariant h p trace run → IsAsked p.ahead request bytes
     → request.line < lines_of (shape_of own)
 asked-inside h p trace run own request bytes same k asked =
     let f = k.follows in
-    let was : IsAhead p trace run h f.now (Waits asked.line) = subst (λ v. IsAhead p trace run h f.now v) asked.waits f.ahead in
+    let was : IsAhead p trace run h f.now (NextLine asked.line) = subst (λ v. IsAhead p trace run h f.now v) asked.waits f.ahead in
     let more : IsMore (shape_of h) p.tally asked.line = subst (λ g. IsMore g p.tally asked.line) f.geometry was.1 in
     subst (λ (x : Header). request.line < lines_of (shape_of x)) (sym same) (asked-line (shape_of h) asked.line request bytes more.inside asked.asks)
 
@@ -305,7 +305,7 @@ traced-more laws g trace t tally r y is m e = record {
 }
 
 pub offered-one : Laws → (requests-more : (trace : List TraceLine) (t : TraceLine) (r : Request) → request_of (1 + length trace) t ≡ r ∷ [] → requests (trace ++ t ∷ []) ≡ requests trace ++ r ∷ [])
-    → (h : Header) (p : Progress) (both_new : Coupled) (t : TraceLine) (request : Asked) (bytes start left before_it written : Option (List ℕ)) → p.ahead ≡ Waits t → Asks t request bytes
+    → (h : Header) (p : ReplayState) (both_new : Coupled) (t : TraceLine) (request : Asked) (bytes start left before_it written : Option (List ℕ)) → p.ahead ≡ NextLine t → Asks t request bytes
     → ((offers : List Asked) (idle : ℕ) (steps : List Step) → StandsFor p.coupled h offers idle steps → StandsFor both_new h (offers ++ request ∷ []) idle steps)
     → pending_of both_new ≡ pending_of p.coupled → from_of both_new ≡ from_of p.coupled → finished_of both_new ≡ finished_of p.coupled
     → IsUnder h p start left before_it written
@@ -315,7 +315,7 @@ offered-one laws requests-more h p both_new t request bytes start left before_it
     let k = u.holds in
     let f = k.follows in
     let is : request_of (1 + length u.trace) t ≡ r ∷ [] = asks-request (1 + length u.trace) t request bytes asks in
-    let was : IsAhead p u.trace u.run h f.now (Waits t) = subst (λ a. IsAhead p u.trace u.run h f.now a) e f.ahead in
+    let was : IsAhead p u.trace u.run h f.now (NextLine t) = subst (λ a. IsAhead p u.trace u.run h f.now a) e f.ahead in
     let under : IsUnderway h u.trace f.done f.now u.run (NextLine t) = subst (λ a. IsUnderway h u.trace f.done f.now u.run (following a)) e f.underway in
     let new = laws.takes h u.trace f.done f.now u.run t r under is in
     let more : IsMore (shape_of h) p.tally t = subst (λ g. IsMore g p.tally t) f.geometry was.1 in
@@ -366,9 +366,9 @@ requests-one trace t r e = requests-more_of 1 trace t (1 + length trace) refl �
 
 -- ---- The limits
 
-pub total-clocks : (h : Header) (p : Progress) (trace : List TraceLine) (run : Run) (now : ℕ) (a : Ahead) → p.tally.clocks ≤ 4294967296 → IsAhead p trace run h now a → p.tally.clocks + passing a ≤ 4294967296
+pub total-clocks : (h : Header) (p : ReplayState) (trace : List TraceLine) (run : Run) (now : ℕ) (a : Ahead) → p.tally.clocks ≤ 4294967296 → IsAhead p trace run h now a → p.tally.clocks + passing a ≤ 4294967296
 total-clocks h p trace run now Unknown le is = omega (arith, le)
-total-clocks h p trace run now (Waits line) le is = omega (arith, le)
+total-clocks h p trace run now (NextLine line) le is = omega (arith, le)
 total-clocks h p trace run now (Passes clocks) le is = is.1.idle
 total-clocks h p trace run now End le is = omega (arith, le)
 total-clocks h p trace run now (Refused reason) le is = omega (arith, le)
@@ -376,7 +376,7 @@ total-clocks h p trace run now (Refused reason) le is = omega (arith, le)
 abbrev pub NowLimit : Type 0
 NowLimit = (h : Header) (c : Controller) (offers : List Asked) (idle : ℕ) (log : List NumberedStep) → ControllerFor h c offers idle log → length offers ≤ 1048576 → idle ≤ 4294967296 → controller_from c < 2 ^ 40
 
-pub now-below : Agrees → NowLimit → (h : Header) (p : Progress) (trace : List TraceLine) (run : Run) → Holds h p trace run → from_of p.coupled < 2 ^ 40
+pub now-below : Agrees → NowLimit → (h : Header) (p : ReplayState) (trace : List TraceLine) (run : Run) → LoopInvariant h p trace run → from_of p.coupled < 2 ^ 40
 now-below agrees limit h p trace run k =
     let f = k.follows in
     let few : length (offered trace) ≤ 1048576 = omega (arith, same-length (requests trace), few-asked 1 trace, f.traced.few) in

@@ -22,10 +22,10 @@ use Rattle.trace_replay.specs.Coupled.{Step, StandsFor, pending_of, controller_o
 use Rattle.trace_replay.specs.declared.ends.Ends.{Ends as Coupled}
 use Rattle.trace_replay.specs.Job.{MOST, trace_from, trace_of, ended, refused_behind, at_end}
 use Rattle.trace_replay.specs.Reading.{IsTally, IsNext, MayStand, Continues, Ends, IsRead, IsTakenBy}
-use Rattle.trace_replay.specs.Progress.{following, passing, found_as, Holds, IsUnder, IsLeftOff, IsAhead, MayGoOn, tally_with, rest_of, left_of}
-use Rattle.trace_replay.specs.declared.progress.Ahead.{Ahead}
-use Rattle.trace_replay.specs.declared.progress.Ahead.TheVariants.{Unknown, Waits, Passes, End, Refused}
-use Rattle.trace_replay.specs.declared.progress.Progress.{Progress}
+use Rattle.trace_replay.specs.ReplayState.{following, passing, found_as, LoopInvariant, IsUnder, IsStoppedByReadFault, IsAhead, MayGoOn, tally_with, rest_of, left_of}
+use Rattle.trace_replay.specs.declared.replay_state.Ahead.{Ahead}
+use Rattle.trace_replay.specs.declared.replay_state.Ahead.TheVariants.{Unknown, NextLine, Passes, End, Refused}
+use Rattle.trace_replay.specs.declared.replay_state.ReplayState.{ReplayState}
 use Rattle.ddr_io.specs.declared.line_reader.Line.{Line}
 use Rattle.trace_replay.specs.declared.trace_lines.Tally.{Tally}
 use Rattle.trace_replay.specs.declared.trace_lines.Next.{Next}
@@ -87,13 +87,13 @@ Few = (h : Header) (c : Controller) (offers : List Asked) (idle : ℕ) (log : Li
 abbrev pub Counts : Type 0
 Counts = (h : Header) (trace : List TraceLine) (run : Run) → Sound h trace run → length (waiting h (offered trace) (controller_steps trace run)) ≡ length (unserved (requests trace) run)
 
-pub few-wait : Agrees → Few → (h : Header) (p : Progress) (trace : List TraceLine) (run : Run) → Holds h p trace run → length (waiting h (offered trace) (controller_steps trace run)) ≤ 32
+pub few-wait : Agrees → Few → (h : Header) (p : ReplayState) (trace : List TraceLine) (run : Run) → LoopInvariant h p trace run → length (waiting h (offered trace) (controller_steps trace run)) ≤ 32
 few-wait agrees few h p trace run k =
     let same : with_pending (pending_of p.coupled) (numbered_steps k.both.steps) ≡ controller_steps trace run = ap (λ o. with_pending o (numbered_steps k.both.steps)) k.none_pending ∙ k.both.are_of.controller in
     let stands = subst (λ l. ControllerFor h (controller_of p.coupled) (offered trace) (p.tally.clocks + passing p.ahead) l) same (agrees p.coupled h (offered trace) (p.tally.clocks + passing p.ahead) k.both.steps k.both.stands) in
     few h (controller_of p.coupled) (offered trace) (p.tally.clocks + passing p.ahead) (controller_steps trace run) stands
 
-pub left-off : Agrees → Few → Counts → (h : Header) (p : Progress) (start old before written : Option (List ℕ)) (held : List ℕ) (left : Option (List ℕ)) → p.ahead ≡ Unknown → IsUnder h p start old before written → HasNoFeed held × Keeps old (next_bytes held left) → IsLeftOff h start left before written
+pub left-off : Agrees → Few → Counts → (h : Header) (p : ReplayState) (start old before written : Option (List ℕ)) (held : List ℕ) (left : Option (List ℕ)) → p.ahead ≡ Unknown → IsUnder h p start old before written → HasNoFeed held × Keeps old (next_bytes held left) → IsStoppedByReadFault h start left before written
 left-off agrees few counts h p start old before written held left e u k =
     let f = u.holds.follows in
     let read : Continues (shape_of h) [] start u.trace old = subst (λ a. IsRead (shape_of h) u.trace a start old) e u.read in
@@ -110,7 +110,7 @@ left-off agrees few counts h p start old before written held left e u k =
 abbrev pub GoesOnWith : Type 0
 GoesOnWith = (h : Header) (trace : List TraceLine) (n now : ℕ) (run : Run) (ahead : Following) → IsUnderway h trace n now run UnknownLine → IsUnderway h trace n now run ahead
 
-ahead-next : (h : Header) (p : Progress) (trace : List TraceLine) (run : Run) (now : ℕ) (next : Next) → finished_of p.coupled ≡ false → MayStand p.g p.tally next → IsAhead (record p { ahead = found_as next }) trace run h now (found_as next)
+ahead-next : (h : Header) (p : ReplayState) (trace : List TraceLine) (run : Run) (now : ℕ) (next : Next) → finished_of p.coupled ≡ false → MayStand p.g p.tally next → IsAhead (record p { ahead = found_as next }) trace run h now (found_as next)
 ahead-next h p trace run now (Found line) e m = (e, m)
 ahead-next h p trace run now NoLine e m = tt
 ahead-next h p trace run now (RefusedLine reason) e m = tt
@@ -120,7 +120,7 @@ none-passes (Found line) = refl
 none-passes NoLine = refl
 none-passes (RefusedLine reason) = refl
 
-pub looked : GoesOnWith → (h : Header) (p : Progress) (next : Next) (start old new before written : Option (List ℕ)) → p.ahead ≡ Unknown → ((trace : List TraceLine) → IsTally p.tally trace → IsNext p.g trace old new next) → MayStand p.g p.tally next → IsUnder h p start old before written
+pub looked : GoesOnWith → (h : Header) (p : ReplayState) (next : Next) (start old new before written : Option (List ℕ)) → p.ahead ≡ Unknown → ((trace : List TraceLine) → IsTally p.tally trace → IsNext p.g trace old new next) → MayStand p.g p.tally next → IsUnder h p start old before written
     → IsUnder h (record p { ahead = found_as next }) start new before written
 looked goes h p next start old new before written e found may u =
     let f = u.holds.follows in
@@ -164,7 +164,7 @@ rest-next false (Found line) = refl
 rest-next false NoLine = refl
 rest-next false (RefusedLine reason) = refl
 
-pub left-next : (p : Progress) (next : Next) → p.ahead ≡ Unknown → left_of (record p { ahead = found_as next }) ≤ left_of p
+pub left-next : (p : ReplayState) (next : Next) → p.ahead ≡ Unknown → left_of (record p { ahead = found_as next }) ≤ left_of p
 unfolding left_of
 left-next p next e =
     let r : rest_of (finished_of p.coupled) (found_as next) ≡ rest_of (finished_of p.coupled) p.ahead = rest-next (finished_of p.coupled) next ∙ ap (rest_of (finished_of p.coupled)) (sym e) in
@@ -172,11 +172,11 @@ left-next p next e =
 
 -- ---- A request more
 
-rest-taken : (b : Bool) (line : TraceLine) → rest_of b Unknown ≡ rest_of b (Waits line)
+rest-taken : (b : Bool) (line : TraceLine) → rest_of b Unknown ≡ rest_of b (NextLine line)
 rest-taken true line = refl
 rest-taken false line = refl
 
-pub left-offered : (old new : Progress) (line : TraceLine) (b : Bool) → old.ahead ≡ Waits line → (b ≡ true → new.tally ≡ tally_with old.tally 0) → (b ≡ true → new.ahead ≡ Unknown) → new.commands ≡ old.commands
+pub left-offered : (old new : ReplayState) (line : TraceLine) (b : Bool) → old.ahead ≡ NextLine line → (b ≡ true → new.tally ≡ tally_with old.tally 0) → (b ≡ true → new.ahead ≡ Unknown) → new.commands ≡ old.commands
     → finished_of new.coupled ≡ finished_of old.coupled → (b ≡ false → new ≡ old) → left_of new ≤ left_of old
 unfolding left_of
 left-offered old new line true was tally ahead commands finished same =
@@ -186,20 +186,20 @@ left-offered old new line true was tally ahead commands finished same =
     omega (arith, lines, rest, commands)
 left-offered old new line false was tally ahead commands finished same = let e = ap left_of (same refl) in omega (arith, e)
 
-pub goes-offered : (old new : Progress) (line : TraceLine) (b : Bool) (last : Line) → old.ahead ≡ Waits line → (b ≡ true → new.ahead ≡ Unknown) → (b ≡ false → new ≡ old) → MayGoOn old.ahead last → MayGoOn new.ahead last
+pub goes-offered : (old new : ReplayState) (line : TraceLine) (b : Bool) (last : Line) → old.ahead ≡ NextLine line → (b ≡ true → new.ahead ≡ Unknown) → (b ≡ false → new ≡ old) → MayGoOn old.ahead last → MayGoOn new.ahead last
 goes-offered old new line true last was ahead same m = subst (λ a. MayGoOn a last) (sym (ahead refl)) (subst (λ a. MayGoOn a last) was m)
-goes-offered old new line false last was ahead same m = subst (λ (q : Progress). MayGoOn q.ahead last) (sym (same refl)) m
+goes-offered old new line false last was ahead same m = subst (λ (q : ReplayState). MayGoOn q.ahead last) (sym (same refl)) m
 
 -- of bytes that are not known nothing is said
 read-none : (g : Shape) (trace : List TraceLine) (ahead : Ahead) (left : Option (List ℕ)) → IsRead g trace ahead None left
 read-none g trace Unknown left = tt
-read-none g trace (Waits line) left = tt
+read-none g trace (NextLine line) left = tt
 read-none g trace (Passes clocks) left = tt
 read-none g trace End left = tt
 read-none g trace (Refused reason) left = tt
 
-pub under-none : (h : Header) (p : Progress) (trace : List TraceLine) (run : Run) (left : Option (List ℕ)) → Holds h p trace run → IsUnder h p None left None None
+pub under-none : (h : Header) (p : ReplayState) (trace : List TraceLine) (run : Run) (left : Option (List ℕ)) → LoopInvariant h p trace run → IsUnder h p None left None None
 under-none h p trace run left k = record { trace = trace; run = run; holds = k; read = read-none (shape_of h) trace p.ahead left; wrote = tt }
 
-pub under-lines : (h : Header) (p : Progress) (start left before written : Option (List ℕ)) → IsUnder h p start left before written → p.tally.lines ≤ MOST
+pub under-lines : (h : Header) (p : ReplayState) (start left before written : Option (List ℕ)) → IsUnder h p start left before written → p.tally.lines ≤ MOST
 under-lines h p start left before written u = omega (arith, u.holds.follows.traced.few, u.holds.follows.tally.lines)

@@ -5,13 +5,13 @@ use Rattle.ddr_text.specs.declared.lines.ReportLine.TheVariants.{End as EndLine,
 use Rattle.reports.specs.Stats.{stat_lines}
 use Rattle.trace_replay.specs.Counts.{with_peak}
 use Rattle.trace_replay.specs.declared.ending.Ending.{Ending}
-use Rattle.trace_replay.specs.declared.progress.Ahead.{Ahead}
-use Rattle.trace_replay.specs.declared.progress.Ahead.TheVariants.{Unknown, Waits, Passes, End, Refused}
+use Rattle.trace_replay.specs.declared.replay_state.Ahead.{Ahead}
+use Rattle.trace_replay.specs.declared.replay_state.Ahead.TheVariants.{Unknown, NextLine, Passes, End, Refused}
 
 -- the reason of the line that was refused, where one was
 abbrev pub reason_in : Ahead → Option ℕ
 reason_in Unknown = None
-reason_in (Waits line) = None
+reason_in (NextLine line) = None
 reason_in (Passes clocks) = None
 reason_in End = None
 reason_in (Refused reason) = Some reason

@@ -2,9 +2,9 @@ pub mod Counts
 pub mod Coupled
 pub mod Delivery
 pub mod Ending
-pub mod Held
 pub mod Job
-pub mod Progress
 pub mod Reading
 pub mod Replay
+pub mod ReplayState
+pub mod RequestBuffer
 pub mod Turning

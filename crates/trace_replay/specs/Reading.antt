@@ -13,8 +13,8 @@ use Rattle.ondie_ecc.specs.Bits.{IsBytes}
 use Rattle.reports.specs.Barriers.{idle_clocks}
 use Rattle.reports.specs.Delivered.{IsInside}
 use Rattle.trace_replay.specs.Job.{MOST, clocks_of, trace_from, trace_of, ended, refused_behind}
-use Rattle.trace_replay.specs.declared.progress.Ahead.{Ahead}
-use Rattle.trace_replay.specs.declared.progress.Ahead.TheVariants.{Unknown, Waits, Passes, End as EndAhead, Refused as RefusedAhead}
+use Rattle.trace_replay.specs.declared.replay_state.Ahead.{Ahead}
+use Rattle.trace_replay.specs.declared.replay_state.Ahead.TheVariants.{Unknown, NextLine, Passes, End as EndAhead, Refused as RefusedAhead}
 use Rattle.trace_replay.specs.declared.trace_lines.Next.{Next}
 use Rattle.trace_replay.specs.declared.trace_lines.Next.TheVariants.{Found, End, Refused}
 use Rattle.trace_replay.specs.declared.trace_lines.Tally.{Tally}
@@ -73,7 +73,7 @@ GoesOn last (Refused reason) = ⊤
 -- the lines of the trace so far were read, and the line ahead
 abbrev pub IsRead : Shape → List TraceLine → Ahead → Option (List ℕ) → Option (List ℕ) → Type 0
 IsRead g trace Unknown start left = Continues g [] start trace left
-IsRead g trace (Waits line) start left = Continues g [] start (trace ++ line ∷ []) left
+IsRead g trace (NextLine line) start left = Continues g [] start (trace ++ line ∷ []) left
 IsRead g trace (Passes clocks) start left = Continues g [] start (trace ++ Idle clocks ∷ []) left
 IsRead g trace EndAhead start left = IfSome start (λ bytes. (trace_of g bytes ≡ ended trace) × (left ≡ Some []))
 IsRead g trace (RefusedAhead reason) start left = IfSome start (λ bytes. trace_of g bytes ≡ refused_behind trace reason)

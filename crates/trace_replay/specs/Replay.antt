@@ -24,7 +24,7 @@ use Rattle.reports.specs.Whole.{whole, IsStartOf, IsUnfinishedOf}
 use Rattle.speed_bin.specs.declared.header.Header.{Header}
 use Rattle.trace_replay.specs.Ending.{end_lines}
 use Rattle.trace_replay.specs.Job.{trace_of, IsJobOf, IsPartOf, IsUsedUp, IsNoJob, IsTrace}
-use Rattle.trace_replay.specs.Progress.{IsLeftOff, IsBegun}
+use Rattle.trace_replay.specs.ReplayState.{IsStoppedByReadFault, IsBegun}
 use Rattle.trace_replay.specs.Reading.{IsTakenBy}
 use Rattle.ddr_text.specs.Stop.{status_of}
 use Rattle.trace_replay.specs.declared.ending.Ending.{Ending}
@@ -53,8 +53,8 @@ abbrev pub Starts : Header → List ℕ → List TraceLine → Option ℕ → Op
 Starts h text trace refused before after = (bytes : List ℕ) × IsStartOf spelled h text trace (refusal_of trace refused) bytes × Appends before after bytes
 
 -- whole lines of a started report were written, in which at most 64 requests of the trace are not served
-abbrev pub LeavesOff : Header → List ℕ → List TraceLine → Option (List ℕ) → Option (List ℕ) → Type 0
-LeavesOff h text trace before after = (bytes : List ℕ) × IsUnfinishedOf spelled h text trace 64 bytes × Appends before after bytes
+abbrev pub StandsAfterReadFault : Header → List ℕ → List TraceLine → Option (List ℕ) → Option (List ℕ) → Type 0
+StandsAfterReadFault h text trace before after = (bytes : List ℕ) × IsUnfinishedOf spelled h text trace 64 bytes × Appends before after bytes
 
 -- ---- The answer
 
@@ -70,7 +70,7 @@ JobAnswers status.Broken h text trace refused left left_after before after = ⊥
 
 -- where the trace is that of the bytes that were taken
 abbrev pub PartAnswers : Status → Header → List ℕ → List TraceLine → Option (List ℕ) → Option (List ℕ) → Type 0
-PartAnswers status.ReadFault h text trace before after = LeavesOff h text trace before after
+PartAnswers status.ReadFault h text trace before after = StandsAfterReadFault h text trace before after
 PartAnswers status.Ok h text trace before after = ⊥
 PartAnswers status.Refused h text trace before after = ⊥
 PartAnswers status.WriteFault h text trace before after = ⊥
@@ -104,7 +104,7 @@ TraceAnswers answer h text start left before after =
 
 -- what was written where serving stopped: by a read fault whole lines, and else lines that may be cut off
 abbrev pub StopsServing : Stop → Header → Option (List ℕ) → Option (List ℕ) → Option (List ℕ) → Option (List ℕ) → Type 0
-StopsServing ReadFault h start left before written = IsLeftOff h start left before written
+StopsServing ReadFault h start left before written = IsStoppedByReadFault h start left before written
 StopsServing WriteFault h start left before written = IsBegun h start before written
 StopsServing OutOfMemory h start left before written = IsBegun h start before written
 

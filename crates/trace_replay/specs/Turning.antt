@@ -9,8 +9,8 @@ use Rattle.reports.specs.Runs.{Run}
 use Rattle.reports.specs.Sound.{IsRun}
 use Rattle.reports.specs.Underway.{Ended}
 use Rattle.trace_replay.specs.Coupled.{from_of}
-use Rattle.trace_replay.specs.Progress.{Holds, IsIssuing, IsResting, following}
-use Rattle.trace_replay.specs.declared.progress.Progress.{Progress}
+use Rattle.trace_replay.specs.ReplayState.{LoopInvariant, IsIssuing, IsResting, following}
+use Rattle.trace_replay.specs.declared.replay_state.ReplayState.{ReplayState}
 
 -- a command that a turn issues is one that words spell
 abbrev pub IsSpelled : Turn → Type 0
@@ -19,13 +19,13 @@ IsSpelled Idle = ⊤
 IsSpelled Done = ⊤
 
 -- no line is left, and the run is finished
-pub record IsDone (h : Header) (p : Progress) (trace : List TraceLine) (run : Run) : Type 0 where
-  pub holds : Holds h p trace run
+pub record IsDone (h : Header) (p : ReplayState) (trace : List TraceLine) (run : Run) : Type 0 where
+  pub holds : LoopInvariant h p trace run
   pub last : following p.ahead ≡ Ended
   pub finished : IsRun h trace run (from_of p.coupled)
 
 -- a command is pending, or no request waits, or the run is finished
-abbrev pub Turned : Turn → Header → Progress → List TraceLine → Run → Type 0
+abbrev pub Turned : Turn → Header → ReplayState → List TraceLine → Run → Type 0
 Turned (Issue clock command id) h p trace run = IsIssuing h p trace run clock command id
 Turned Idle h p trace run = IsResting h p trace run
 Turned Done h p trace run = IsDone h p trace run

@@ -10,17 +10,17 @@ ghost use Rattle.ddr_text.specs.declared.lines.ReportLine.TheVariants.{Value as 
 ghost use Rattle.reports.specs.Requests.{Request as AnyRequest};
 ghost use Rattle.reports.specs.Runs.{Run, ready, held as still_held};
 ghost use Rattle.reports.specs.Report.{answers};
-ghost use Rattle.trace_replay.specs.Progress.{kept_of, answer_lines};
+ghost use Rattle.trace_replay.specs.ReplayState.{kept_of, answer_lines};
 ghost use Rattle.ddr_text.specs.Stop.{WriteCause};
 
-use crate::held::{Held, HeldRequest, Outcome};
+use crate::request_buffer::{HeldRequest, Outcome, RequestBuffer};
 use command_words::LineAddr;
 use ddr_io::Sink;
 use ddr_text::{ReportLine, Stop, put_line};
 use error_scrub::LineRead;
 
 // Writes the D lines of all reads before which no request is unserved.
-pub(crate) fn put_answers<K: Sink>(held: &mut Held, sink: &mut K) -> Result<(), Stop>
+pub(crate) fn put_answers<K: Sink>(held: &mut RequestBuffer, sink: &mut K) -> Result<(), Stop>
     ensures held { OnOk result ((h : AnyHeader) (trace : List AnyLine) (run : Run) (before : ℕ) (rs : List AnyRequest) → held.old ≡ kept_of h trace run before rs
         → held.new ≡ kept_of h trace run (before + length (ready rs run)) (still_held rs run)) }
     ensures wrote { OnOk result ((h : AnyHeader) (trace : List AnyLine) (run : Run) (before : ℕ) (rs : List AnyRequest) → held.old ≡ kept_of h trace run before rs
@@ -50,7 +50,7 @@ fn put_answer<K: Sink>(served: &HeldRequest, sink: &mut K) -> Result<(), Stop>
     match &served.outcome {
         Outcome::Found(read) => put_value(served.number, served.request.line, read, sink),
         Outcome::Wrote => Ok(()),
-        Outcome::Waits => Ok(()),
+        Outcome::Unserved => Ok(()),
     }
 }
 

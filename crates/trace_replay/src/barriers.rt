@@ -6,16 +6,16 @@ ghost use Rattle.ddr_text.specs.declared.lines.TraceLine.{TraceLine as AnyLine};
 ghost use Rattle.ddr_text.specs.declared.lines.TraceLine.TheVariants.{Flip as AnyFlip, Idle as AnyIdle};
 ghost use Rattle.reports.specs.Runs.{Run};
 ghost use Rattle.trace_replay.specs.Coupled.{finished_of};
-ghost use Rattle.trace_replay.specs.Progress.{IsResting, IsUnder, IsAtRest, IsBegun, IsKnown, MayGoOn, left_of};
+ghost use Rattle.trace_replay.specs.ReplayState.{IsResting, IsUnder, IsAtRest, IsBegun, IsKnown, MayGoOn, left_of};
 ghost use Rattle.ddr_text.specs.Stop.{WriteCause};
 
 use crate::Coupled;
-use crate::progress::{Ahead, Progress};
+use crate::replay_state::{Ahead, ReplayState};
 use command_words::{LineAddr, map_line};
 use ddr_io::{OutOfMemory, Sink};
 use ddr_text::{ReportLine, Stop, TraceLine, put_line};
 
-impl Progress {
+impl ReplayState {
     // An idle turn: the line ahead is carried out, or no more requests come.
     pub(crate) fn pass<K: Sink>(&mut self, sink: &mut K) -> Result<(), Stop>
         requires rests { (h : AnyHeader) × (trace : List AnyLine) × (run : Run) × IsResting h self.old trace run }
@@ -36,7 +36,7 @@ impl Progress {
         reports::laws::rests_on_the_lines_so_far();
         reports::laws::takes_from_the_held();
         match self.ahead {
-            Ahead::Waits(line) => self.pass_line(&line, sink),
+            Ahead::NextLine(line) => self.pass_line(&line, sink),
             Ahead::Passes(clocks) => {
                 self.take_line(clocks);
                 Ok(())
@@ -56,7 +56,7 @@ impl Progress {
     // Carries out the F or I line ahead.
     fn pass_line<K: Sink>(&mut self, line: &TraceLine, sink: &mut K) -> Result<(), Stop>
         requires rests { (h : AnyHeader) × (trace : List AnyLine) × (run : Run) × IsResting h self.old trace run }
-        requires ahead { self.old.ahead ≡ Ahead.Waits line.now }
+        requires ahead { self.old.ahead ≡ Ahead.NextLine line.now }
         ensures under { OnOk result ((h : AnyHeader) (start left before : Option (List ℕ)) → IsAtRest h self.old start left before (K.written sink.old)
             → IsUnder h self.new start left before (K.written sink.new)) }
         ensures cut { IfErr result (λ stop. (h : AnyHeader) (start left before : Option (List ℕ)) → IsAtRest h self.old start left before (K.written sink.old)
@@ -81,7 +81,7 @@ impl Progress {
     // Lets the clocks of the I line ahead pass.
     fn idle(&mut self, clocks: u64)
         requires rests { (h : AnyHeader) × (trace : List AnyLine) × (run : Run) × IsResting h self.old trace run }
-        requires ahead { self.old.ahead ≡ Ahead.Waits (AnyIdle clocks) }
+        requires ahead { self.old.ahead ≡ Ahead.NextLine (AnyIdle clocks) }
         ensures under { (h : AnyHeader) (start left before written : Option (List ℕ)) → IsAtRest h self.old start left before written
             → IsUnder h self.new start left before written }
         ensures ahead { self.new.ahead ≡ Ahead.Passes clocks }
@@ -105,7 +105,7 @@ impl Progress {
         sink: &mut K,
     ) -> Result<(), Stop>
         requires rests { (h : AnyHeader) × (trace : List AnyLine) × (run : Run) × IsResting h self.old trace run }
-        requires ahead { self.old.ahead ≡ Ahead.Waits (AnyFlip line device bit) }
+        requires ahead { self.old.ahead ≡ Ahead.NextLine (AnyFlip line device bit) }
         ensures under { OnOk result ((h : AnyHeader) (start left before : Option (List ℕ)) → IsAtRest h self.old start left before (K.written sink.old)
             → IsUnder h self.new start left before (K.written sink.new)) }
         ensures cut { IfErr result (λ stop. (h : AnyHeader) (start left before : Option (List ℕ)) → IsAtRest h self.old start left before (K.written sink.old)

@@ -9,13 +9,13 @@ mod coupled;
 mod coupled_tests;
 mod ending;
 mod ends;
-mod held;
-#[cfg(test)]
-mod held_tests;
-mod progress;
 #[cfg(test)]
 mod refusal_tests;
 mod replay_loop;
+mod replay_state;
+mod request_buffer;
+#[cfg(test)]
+mod request_buffer_tests;
 #[cfg(test)]
 mod tests;
 mod trace_lines;

@@ -10,12 +10,12 @@ ghost use Rattle.ddr_text.specs.declared.lines.TraceLine.{TraceLine};
 ghost use Rattle.reports.specs.Runs.{Run};
 ghost use Rattle.trace_replay.specs.Job.{IsJobOf};
 ghost use Rattle.trace_replay.specs.Reading.{Continues, IsRead};
-ghost use Rattle.trace_replay.specs.Progress.{Holds, IsUnder, IsOver, MayGoOn};
+ghost use Rattle.trace_replay.specs.ReplayState.{LoopInvariant, IsUnder, IsOver, MayGoOn};
 ghost use Rattle.trace_replay.specs.Replay.{Answers, RunAnswers, OpeningEnds, TraceAnswers, TraceServed, TraceEnds, EndAnswers, EndCause, EndKept, IsUnrefused, StopsServing, StopCause};
 ghost use Rattle.ddr_text.specs.Stop.{status_of};
 
 use crate::ending::Ending;
-use crate::progress::Progress;
+use crate::replay_state::ReplayState;
 use ddr_io::{LineReader, Sink, Source, Status};
 use ddr_text::{HeaderText, Opening, ReportLine, Stop, open_job, put_line, put_opening};
 use speed_bin::Header;
@@ -168,14 +168,14 @@ fn serve_trace<S: Source, K: Sink>(
 }
 
 // A replay before its first turn.
-fn begin(alloc: Global, header: &Header) -> Result<Progress, Stop>
+fn begin(alloc: Global, header: &Header) -> Result<ReplayState, Stop>
     requires { IsAccepted header.now }
-    ensures holds { IfOk result (λ p. Holds header.now p [] []) }
+    ensures holds { IfOk result (λ p. LoopInvariant header.now p [] []) }
     ensures ahead { IfOk result (λ p. (last : AnyEnd) → last ≡ AfterText → MayGoOn p.ahead last) }
     ensures read { IfOk result (λ p. (start left : Option (List ℕ)) → Continues (shape_of header.now) [] start [] left → IsRead (shape_of header.now) [] p.ahead start left) }
     ensures stop { IfErr result (λ stop. stop ≡ Stop.OutOfMemory) }
 {
-    match Progress::new(alloc, header) {
+    match ReplayState::new(alloc, header) {
         Ok(progress) => Ok(progress),
         Err(_) => Err(Stop::OutOfMemory),
     }
@@ -183,14 +183,14 @@ fn begin(alloc: Global, header: &Header) -> Result<Progress, Stop>
 
 // Serves the trace, to its last turn.
 fn serve<S: Source, K: Sink>(
-    progress: &mut Progress,
+    progress: &mut ReplayState,
     reader: &mut LineReader,
     source: &mut S,
     sink: &mut K,
 ) -> Result<(), Stop>
     requires going_on { MayGoOn progress.old.ahead reader.old.last }
-    requires holds { (h : AnyHeader) × (trace : List TraceLine) × (run : Run) × Holds h progress.old trace run }
-    ensures holds { OnOk result ((h : AnyHeader) × (trace : List TraceLine) × (run : Run) × Holds h progress.new trace run) }
+    requires holds { (h : AnyHeader) × (trace : List TraceLine) × (run : Run) × LoopInvariant h progress.old trace run }
+    ensures holds { OnOk result ((h : AnyHeader) × (trace : List TraceLine) × (run : Run) × LoopInvariant h progress.new trace run) }
     ensures over { OnOk result ((h : AnyHeader) (start before : Option (List ℕ)) → IsUnder h progress.old start (next_bytes reader.old.held (S.left source.old)) before (K.written sink.old)
         → IsOver h progress.new start (next_bytes reader.new.held (S.left source.new)) before (K.written sink.new)) }
     ensures cut { IfErr result (λ stop. (h : AnyHeader) (start before : Option (List ℕ)) → IsUnder h progress.old start (next_bytes reader.old.held (S.left source.old)) before (K.written sink.old)

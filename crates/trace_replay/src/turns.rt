@@ -16,14 +16,14 @@ ghost use Rattle.reports.specs.Underway.{IsOffered, issue};
 ghost use Rattle.trace_replay.specs.Coupled.{from_of, until_of, finished_of};
 ghost use Rattle.trace_replay.specs.Turning.{IsSpelled, Turned};
 ghost use Rattle.trace_replay.specs.Delivery.{DeliveryLaws};
-ghost use Rattle.trace_replay.specs.Held.{Has};
-ghost use Rattle.trace_replay.specs.Progress.{Holds, IsIssuing, IsDelivered, IsReady, IsBegun, TurnAfter, MayGoOn, following, left_of, bytes_at, outcome_with, noted};
+ghost use Rattle.trace_replay.specs.RequestBuffer.{Has};
+ghost use Rattle.trace_replay.specs.ReplayState.{LoopInvariant, IsIssuing, IsDelivered, IsReady, IsBegun, TurnAfter, MayGoOn, following, left_of, bytes_at, outcome_with, noted};
 ghost use Rattle.ddr_text.specs.Stop.{WriteCause};
 
 use crate::Coupled;
 use crate::answers::put_answers;
-use crate::held::{Held, Outcome};
-use crate::progress::Progress;
+use crate::replay_state::ReplayState;
+use crate::request_buffer::{Outcome, RequestBuffer};
 use command_words::{Command, encode};
 use ddr_io::{OutOfMemory, Sink};
 use ddr_text::{ReportLine, Stop, put_line};
@@ -31,10 +31,10 @@ use error_scrub::LineRead;
 use requests::RequestId;
 use scheduler::{Clock, Turn};
 
-impl Progress {
+impl ReplayState {
     /// One turn, and the report lines that it makes. It answers whether the run goes on.
     pub(crate) fn turn<K: Sink>(&mut self, sink: &mut K) -> Result<bool, Stop>
-        requires ready { (h : AnyHeader) × (trace : List AnyLine) × (run : Run) × (Holds h self.old trace run) × IsOffered h trace run (following self.old.ahead) }
+        requires ready { (h : AnyHeader) × (trace : List AnyLine) × (run : Run) × (LoopInvariant h self.old trace run) × IsOffered h trace run (following self.old.ahead) }
         ensures after { IfOk result (λ goes_on. (h : AnyHeader) (start left before : Option (List ℕ)) → IsReady h self.old start left before (K.written sink.old)
             → TurnAfter goes_on h self.new start left before (K.written sink.new)) }
         ensures cut { IfErr result (λ stop. (h : AnyHeader) (start left before : Option (List ℕ)) → IsReady h self.old start left before (K.written sink.old)
@@ -61,8 +61,8 @@ impl Progress {
 
     // One turn of the controller.
     fn turned(&mut self) -> Turn
-        requires ready { (h : AnyHeader) × (trace : List AnyLine) × (run : Run) × (Holds h self.old trace run) × IsOffered h trace run (following self.old.ahead) }
-        ensures turned { (h : AnyHeader) (trace : List AnyLine) (run : Run) → Holds h self.old trace run → IsOffered h trace run (following self.old.ahead)
+        requires ready { (h : AnyHeader) × (trace : List AnyLine) × (run : Run) × (LoopInvariant h self.old trace run) × IsOffered h trace run (following self.old.ahead) }
+        ensures turned { (h : AnyHeader) (trace : List AnyLine) (run : Run) → LoopInvariant h self.old trace run → IsOffered h trace run (following self.old.ahead)
             → Turned result h self.new trace run }
         ensures few { self.old.commands < 2200000000 }
         ensures commands { self.new.commands ≡ self.old.commands }
@@ -97,7 +97,7 @@ impl Progress {
     ) -> Result<(), Stop>
         requires issuing { (h : AnyHeader) × (trace : List AnyLine) × (run : Run) × IsIssuing h self.old trace run clock command id }
         ensures after { OnOk result ((h : AnyHeader) (trace : List AnyLine) (run : Run) → IsIssuing h self.old trace run clock command id
-            → Holds h self.new trace (issue trace clock command (number_of id) ∷ run)) }
+            → LoopInvariant h self.new trace (issue trace clock command (number_of id) ∷ run)) }
         ensures wrote { OnOk result ((h : AnyHeader) (trace : List AnyLine) (run : Run) → IsIssuing h self.old trace run clock command id
             → Appends (K.written sink.old) (K.written sink.new) (flat_map spelled (latest h trace run (issue trace clock command (number_of id))))) }
         ensures cut { IfErr result (λ stop. (h : AnyHeader) (trace : List AnyLine) (run : Run) → IsIssuing h self.old trace run clock command id
@@ -175,7 +175,7 @@ fn delivery_laws()
 }
 
 // The bytes that the request with this number brings.
-fn bytes_of(held: &Held, id: Option<RequestId>) -> Option<&[u8; 64]>
+fn bytes_of(held: &RequestBuffer, id: Option<RequestId>) -> Option<&[u8; 64]>
     ensures { lent result ≡ bytes_at held.now (number_of id) }
 {
     match id {
@@ -198,7 +198,7 @@ fn outcome(found: Option<LineRead>) -> Outcome
 }
 
 // Notes what came of the request with this number, where there is one.
-fn note_outcome(held: &mut Held, id: Option<RequestId>, outcome: Outcome)
+fn note_outcome(held: &mut RequestBuffer, id: Option<RequestId>, outcome: Outcome)
     requires { IfSome (number_of id) (λ number. Has held.old number) }
     ensures { held.new ≡ noted held.old (number_of id) outcome }
 {

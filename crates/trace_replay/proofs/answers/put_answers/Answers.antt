@@ -1,5 +1,5 @@
 use Rattle.std.proofs.Common.{◌∙◌, sym, subst, arith}
-use Rattle.trace_replay.specs.Held.{Kept}
+use Rattle.trace_replay.specs.RequestBuffer.{Kept}
 use Rattle.trace_replay.proofs.Answering.{Remains, remains-next, remains-cut, remains-kept, remains-wrote}
 use Rattle.ddr_text.proofs.Prefixes.{if_err}
 use Rattle.trace_replay.proofs.answers.put_answers.Goals as goal

@@ -1,9 +1,9 @@
-use Rattle.std.proofs.Common.{ℕ, ◌≡◌, ◌≤◌, List, length}
+use Rattle.std.proofs.Common.{ℕ, ◌≡◌, List, length}
 use Rattle.speed_bin.specs.declared.header.Header.{Header}
 use Rattle.ddr_text.specs.declared.lines.TraceLine.{TraceLine}
 use Rattle.reports.specs.Requests.{Request}
 use Rattle.reports.specs.Runs.{Run}
-use Rattle.trace_replay.specs.Progress.{kept_of}
+use Rattle.trace_replay.specs.ReplayState.{kept_of}
 use Rattle.trace_replay.proofs.Answering.{Remains}
 use Rattle.trace_replay.proofs.answers.put_answers.Given as goal
 
