@@ -15,8 +15,8 @@ use Rattle.ddr_text.specs.declared.lines.TraceLine.{TraceLine}
 use Rattle.device_core.specs.Steps.{log_of as device_log}
 use Rattle.error_scrub.specs.declared.scrub.ScrubCounts.{ScrubCounts}
 use Rattle.log_auditor.specs.Findings.{Answers, breach_at, breach_of, end_of, fine_or, finding_of, finding_text, found_behind, found_in, is_fine, log_of as judged_log, numbers_from, on_line, status_of}
-use Rattle.log_auditor.specs.Reading.{lines_in}
-use Rattle.log_auditor.specs.declared.report_reader.Stage.TheVariants.{Body}
+use Rattle.ddr_text.specs.ReportReading.{lines_in}
+use Rattle.ddr_text.specs.declared.report_reader.Stage.TheVariants.{Body}
 use Rattle.speed_bin.specs.Counts.{LogCounts}
 use Rattle.speed_bin.specs.Header.{IsAccepted, shape_of}
 use Rattle.speed_bin.specs.Rules.{verdict_at_end}

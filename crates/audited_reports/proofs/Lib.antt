@@ -1,7 +1,8 @@
-pub mod Texts
-pub mod Read
-pub mod Bytes
-pub mod Ranges
-pub mod Counts
-pub mod Whole
 pub mod Audited
+pub mod Bytes
+pub mod Counts
+pub mod Ranges
+pub mod Read
+pub mod Replayed
+pub mod Texts
+pub mod Whole

@@ -12,8 +12,8 @@ use Rattle.ddr_text.specs.ReportGrammar.{has_place}
 use Rattle.ddr_text.specs.declared.lines.ReportLine.{ReportLine}
 use Rattle.ddr_text.specs.declared.lines.TraceLine.{TraceLine}
 use Rattle.ddr_text.specs.declared.lines.TraceLine.TheVariants.{Read, Write, Flip, Idle}
-use Rattle.log_auditor.specs.Reading.{stage_after}
-use Rattle.log_auditor.specs.declared.report_reader.Stage.TheVariants.{Body}
+use Rattle.ddr_text.specs.ReportReading.{stage_after}
+use Rattle.ddr_text.specs.declared.report_reader.Stage.TheVariants.{Body}
 use Rattle.speed_bin.specs.Header.{IsAccepted, shape_of}
 use Rattle.speed_bin.specs.declared.header.Header.{Header}
 use Rattle.reports.specs.Delivered.{IsInside, AreInside}

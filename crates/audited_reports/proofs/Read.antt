@@ -7,8 +7,8 @@ use Rattle.ddr_text.specs.AcceptedReport.{IsReportLine, ReportLines}
 use Rattle.ddr_text.specs.Opening.{is_feed, is_long, parts_of}
 use Rattle.ddr_text.specs.Spelling.{report_text, spelled}
 use Rattle.ddr_text.specs.declared.lines.ReportLine.{ReportLine}
-use Rattle.log_auditor.specs.Reading.{Lines, behind_line, is_whole, judged_line, judged_rest, lines_in, stage_after, stage_behind}
-use Rattle.log_auditor.specs.declared.report_reader.Stage.{Stage}
+use Rattle.ddr_text.specs.ReportReading.{Lines, behind_line, is_whole, judged_line, judged_rest, lines_in, stage_after, stage_behind}
+use Rattle.ddr_text.specs.declared.report_reader.Stage.{Stage}
 use Rattle.ddr_text.proofs.CleanParts.{first-part, line-part}
 use Rattle.audited_reports.proofs.Texts.{text-fits}
 

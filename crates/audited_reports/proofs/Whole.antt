@@ -7,7 +7,7 @@ use Rattle.ddr_text.specs.declared.lines.TraceLine.{TraceLine}
 use Rattle.device_core.specs.Steps.{log_of as device_log}
 use Rattle.device_core.specs.Stored.{scrub_counts}
 use Rattle.error_scrub.specs.declared.scrub.ScrubCounts.{ScrubCounts}
-use Rattle.log_auditor.specs.declared.report_reader.Stage.TheVariants.{Body, Counts, Ended, Closed}
+use Rattle.ddr_text.specs.declared.report_reader.Stage.TheVariants.{Body, Counts, Ended, Closed}
 use Rattle.speed_bin.specs.Counts.{LogCounts, log_counts}
 use Rattle.speed_bin.specs.Header.{IsAccepted, shape_of}
 use Rattle.command_words.specs.Kinds.{is_act, is_rd, is_wr, is_precharge, is_ref_all, is_ref_same, is_rfm_all, is_rfm_same, is_scrub}

@@ -1,13 +1,15 @@
-//! A law: an audit finds nothing in a report that a replay has finished.
+//! Laws: an audit finds nothing in a finished report, and so none in the report that a replay has written.
 #![tactic(auto)]
 
-ghost use Rattle.std.specs.Prelude.{◌≡◌, ℕ, Option, Some, List};
+ghost use Rattle.std.specs.Prelude.{◌≡◌, ℕ, Option, Some, List, []};
 ghost use Rattle.std.specs.List.{flat_map};
 ghost use Rattle.ddr_io.specs.declared.status.Status.{Status};
+ghost use Rattle.ddr_io.specs.declared.status.Status.TheVariants as status;
 ghost use Rattle.ddr_text.specs.Opening.{Accepts, opening_of};
 ghost use Rattle.ddr_text.specs.Spelling.{spelled};
 ghost use Rattle.ddr_text.specs.declared.lines.TraceLine.{TraceLine};
 ghost use Rattle.log_auditor.specs.Findings.{Answers};
+ghost use Rattle.trace_replay.specs.Replay.{Answers as ReplayAnswers};
 ghost use Rattle.speed_bin.specs.declared.header.Header.{Header};
 ghost use Rattle.ddr_text.specs.ReportParts.{Refusal};
 ghost use Rattle.reports.specs.Whole.{IsReportOf};
@@ -32,3 +34,14 @@ pub fn audit_says_ok()
     ensures answer { (bytes : List ℕ) (answer : Status) (left before after : Option (List ℕ)) → IsAuditedOk bytes
         → Answers answer (Some bytes) left before after → SaysOk answer before after }
 {}
+
+/// What a replay writes of a job is audited Ok, where it answers Ok, and also where it refuses a line of the trace: where it
+/// answers Refused, and the opening of the job is accepted.
+pub fn replayed_report_is_ok()
+    ensures finished { (job report : List ℕ) (left : Option (List ℕ))
+        → ReplayAnswers status.Ok (Some job) left (Some []) (Some report) → IsAuditedOk report }
+    ensures refused { (h : Header) (job text rest report : List ℕ) (left : Option (List ℕ)) → opening_of job ≡ Accepts h text rest
+        → ReplayAnswers status.Refused (Some job) left (Some []) (Some report) → IsAuditedOk report }
+{
+    finished_report_is_ok();
+}

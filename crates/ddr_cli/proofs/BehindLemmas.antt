@@ -15,19 +15,12 @@ use Rattle.ddr_text.specs.Stop.{WriteCause, status_of}
 use Rattle.ddr_text.specs.declared.lines.ReportLine.{ReportLine}
 use Rattle.ddr_text.specs.declared.lines.ReportLine.TheVariants.{Refused}
 use Rattle.ddr_text.specs.declared.stop.Stop.{Stop}
-use Rattle.ddr_text.proofs.Outcomes.{answers-cut, none-left}
+use Rattle.ddr_text.proofs.LinesInFront.{all_read, left_next, with_lines_all}
+use Rattle.ddr_text.proofs.Outcomes.{answers-cut}
 use Rattle.ddr_text.proofs.Prefixes.{prefix-behind, prefix-longer, prefix-whole}
-use Rattle.log_auditor.specs.Progress.{with_lines}
-use Rattle.log_auditor.specs.Reading.{IsStep, Lines, Place, StepsOn, lines_left, refusal_at, with_line}
-use Rattle.log_auditor.specs.declared.report_reader.Next.TheVariants.{Line, End, Refused as RefusedNext}
-use Rattle.log_auditor.proofs.Lines.{with_lines_next}
-use Rattle.ddr_cli.specs.Behind.{IsOutcomeBehind, LeftOf, WrittenSoFar, outcome_behind}
-
--- ---- Lines in front
-
-with_lines_all : (lines : List ReportLine) (rest : Lines) → with_lines lines rest ≡ record { lines = lines ++ rest.lines; refusal = rest.refusal }
-with_lines_all [] rest = refl
-with_lines_all (first ∷ lines) rest = ap (with_line first) (with_lines_all lines rest)
+use Rattle.ddr_text.specs.ReportReading.{IsStep, LeftOf, Lines, Place, StepsOn, lines_left, refusal_at, with_lines}
+use Rattle.ddr_text.specs.declared.report_reader.Next.TheVariants.{Line, End, Refused as RefusedNext}
+use Rattle.ddr_cli.specs.Behind.{IsOutcomeBehind, WrittenSoFar, outcome_behind}
 
 -- ---- What is written of lines
 
@@ -39,7 +32,7 @@ pub outcome_rest : (line_text : ReportLine → List ℕ) (lines : List ReportLin
 outcome_rest line_text lines rest = ap (outcome_behind line_text) (with_lines_all lines rest) ∙ ap (λ t. record { text = t; status = refusal_status rest.refusal }) (text_with line_text lines rest)
 
 -- these lines were written, and this is left
-pub outcome_with : (line_text : ReportLine → List ℕ) (first it : Place) (start left : Option (List ℕ)) (lines : List ReportLine) (rest : Lines) → LeftOf first start lines it left → ((bytes : List ℕ) → left ≡ Some bytes → lines_left it bytes ≡ rest)
+pub outcome_with : (line_text : ReportLine → List ℕ) (first it : Place) (start left : Option (List ℕ)) (lines : List ReportLine) (rest : Lines) → LeftOf (lines_left first) start lines it left → ((bytes : List ℕ) → left ≡ Some bytes → lines_left it bytes ≡ rest)
     → IsOutcomeBehind line_text first start (record { text = flat_map line_text lines ++ (outcome_behind line_text rest).text; status = (outcome_behind line_text rest).status })
 outcome_with line_text first it None left lines rest behind is = tt
 outcome_with line_text first it (Some bytes) None lines rest behind is = absurd behind
@@ -47,19 +40,12 @@ outcome_with line_text first it (Some bytes) (Some left) lines rest behind is =
     ap (outcome_behind line_text) behind ∙ outcome_rest line_text lines (lines_left it left) ∙ ap (λ (r : Lines). record { text = flat_map line_text lines ++ (outcome_behind line_text r).text; status = (outcome_behind line_text r).status }) (is left refl)
 
 -- what is written begins with these lines
-outcome_prefix : (line_text : ReportLine → List ℕ) (first it : Place) (start left : Option (List ℕ)) (lines : List ReportLine) → LeftOf first start lines it left → (s : Outcome) × IsOutcomeBehind line_text first start s × (more : List ℕ) × (s.text ≡ flat_map line_text lines ++ more)
+outcome_prefix : (line_text : ReportLine → List ℕ) (first it : Place) (start left : Option (List ℕ)) (lines : List ReportLine) → LeftOf (lines_left first) start lines it left → (s : Outcome) × IsOutcomeBehind line_text first start s × (more : List ℕ) × (s.text ≡ flat_map line_text lines ++ more)
 outcome_prefix line_text first it None left lines behind = (record { text = flat_map line_text lines; status = status.Ok }, tt, [], sym (append-nil (flat_map line_text lines)))
 outcome_prefix line_text first it (Some bytes) None lines behind = absurd behind
 outcome_prefix line_text first it (Some bytes) (Some left) lines behind = (outcome_behind line_text (lines_left first bytes), refl, (outcome_behind line_text (lines_left it left)).text, ap (λ (t : Outcome). t.text) (ap (outcome_behind line_text) behind ∙ outcome_rest line_text lines (lines_left it left)))
 
 -- ---- One step
-
-pub left_next : (first : Place) (start now after : Option (List ℕ)) (lines : List ReportLine) (line : ReportLine) (old new : Place) → LeftOf first start lines old now → IsStep old new now after (Line line) → LeftOf first start (lines ++ line ∷ []) new after
-left_next first None now after lines line old new behind step = tt
-left_next first (Some bytes) None after lines line old new behind step = absurd behind
-left_next first (Some bytes) (Some left) after lines line old new behind step =
-    subst (λ (o : Option (List ℕ)). LeftOf first (Some bytes) (lines ++ line ∷ []) new o) (sym step.1)
-    (behind ∙ ap (with_lines lines) step.2 ∙ with_lines_next lines line (lines_left new step.0))
 
 text_more : (line_text : ReportLine → List ℕ) (lines : List ReportLine) (line : ReportLine) → flat_map line_text (lines ++ line ∷ []) ≡ flat_map line_text lines ++ line_text line
 text_more line_text lines line = flat_map-append line_text lines (line ∷ []) ∙ ap (λ l. flat_map line_text lines ++ l) (append-nil (line_text line))
@@ -69,20 +55,20 @@ written_next line_text before middle after lines line so_far more = subst (Appen
 
 -- ---- Answers
 
-begins : (line_text : ReportLine → List ℕ) (first it : Place) (start left before after : Option (List ℕ)) (lines : List ReportLine) → LeftOf first start lines it left → AppendsPrefix before after (flat_map line_text lines) → (s : Outcome) × IsOutcomeBehind line_text first start s × AppendsPrefix before after s.text
+begins : (line_text : ReportLine → List ℕ) (first it : Place) (start left before after : Option (List ℕ)) (lines : List ReportLine) → LeftOf (lines_left first) start lines it left → AppendsPrefix before after (flat_map line_text lines) → (s : Outcome) × IsOutcomeBehind line_text first start s × AppendsPrefix before after s.text
 begins line_text first it start left before after lines behind so_far =
     let p = outcome_prefix line_text first it start left lines behind in
     (p.0, p.1, subst (AppendsPrefix before after) (sym p.3) (prefix-longer before after (flat_map line_text lines) p.2 so_far))
 
 -- the source had a fault
-pub writes_fault : (line_text : ReportLine → List ℕ) (first it : Place) (start left old new before after : Option (List ℕ)) (lines : List ReportLine) → LeftOf first start lines it left → Appends before after (flat_map line_text lines) → AnswersAs (IsOutcomeBehind line_text first start) status.ReadFault old new before after
+pub writes_fault : (line_text : ReportLine → List ℕ) (first it : Place) (start left old new before after : Option (List ℕ)) (lines : List ReportLine) → LeftOf (lines_left first) start lines it left → Appends before after (flat_map line_text lines) → AnswersAs (IsOutcomeBehind line_text first start) status.ReadFault old new before after
 writes_fault line_text first it start left old new before after lines behind so_far = begins line_text first it start left before after lines behind (prefix-whole before after (flat_map line_text lines) so_far)
 
 -- a line could not be written
-pub writes_cut : (line_text : ReportLine → List ℕ) (first it next : Place) (start now left old new before middle after : Option (List ℕ)) (lines : List ReportLine) (line : ReportLine) (faults later : ℕ) (stop : Stop) → LeftOf first start lines it now → IsStep it next now left (Line line) → Appends before middle (flat_map line_text lines) → AppendsPrefix middle after (line_text line) → WriteCause faults later stop
+pub writes_cut : (line_text : ReportLine → List ℕ) (first it next : Place) (start now left old new before middle after : Option (List ℕ)) (lines : List ReportLine) (line : ReportLine) (faults later : ℕ) (stop : Stop) → LeftOf (lines_left first) start lines it now → IsStep it next now left (Line line) → Appends before middle (flat_map line_text lines) → AppendsPrefix middle after (line_text line) → WriteCause faults later stop
     → AnswersAs (IsOutcomeBehind line_text first start) (status_of stop) old new before after
 writes_cut line_text first it next start now left old new before middle after lines line faults later stop behind step so_far cut cause =
-    let p = outcome_prefix line_text first next start left (lines ++ line ∷ []) (left_next first start now left lines line it next behind step) in
+    let p = outcome_prefix line_text first next start left (lines ++ line ∷ []) (left_next (lines_left first) start now left lines line it next behind step) in
     let far : AppendsPrefix before after (flat_map line_text (lines ++ line ∷ [])) = subst (AppendsPrefix before after) (sym (text_more line_text lines line)) (prefix-behind before middle after (flat_map line_text lines) (line_text line) so_far cut) in
     answers-cut (IsOutcomeBehind line_text first start) p.0 stop faults later old new before after p.1 (subst (AppendsPrefix before after) (sym p.3) (prefix-longer before after (flat_map line_text (lines ++ line ∷ [])) p.2 far)) cause
 
@@ -94,13 +80,8 @@ refused_left : (it new : Place) (left after : Option (List ℕ)) (number reason 
 refused_left it new None after number reason step bytes e = absurd cc
 refused_left it new (Some xs) after number reason step bytes e = let same : xs ≡ bytes = cc in ap (lines_left it) (sym same) ∙ step
 
-all_read : (first it new : Place) (old source_new left : Option (List ℕ)) (kept held : List ℕ) (lines : List ReportLine) → LeftOf first (next_bytes kept old) lines it left → IsStep it new left (next_bytes held source_new) End → ReadsAll old source_new
-all_read first it new None source_new left kept held lines behind step = tt
-all_read first it new (Some bytes) source_new None kept held lines behind step = absurd behind
-all_read first it new (Some bytes) source_new (Some xs) kept held lines behind step = none-left held source_new step.0
-
 -- all lines were written
-pub writes_all : (line_text : ReportLine → List ℕ) (first it next : Place) (old new left before after : Option (List ℕ)) (kept held : List ℕ) (lines : List ReportLine) → LeftOf first (next_bytes kept old) lines it left → IsStep it next left (next_bytes held new) End → Appends before after (flat_map line_text lines)
+pub writes_all : (line_text : ReportLine → List ℕ) (first it next : Place) (old new left before after : Option (List ℕ)) (kept held : List ℕ) (lines : List ReportLine) → LeftOf (lines_left first) (next_bytes kept old) lines it left → IsStep it next left (next_bytes held new) End → Appends before after (flat_map line_text lines)
     → AnswersAs (IsOutcomeBehind line_text first (next_bytes kept old)) status.Ok old new before after
 writes_all line_text first it next old new left before after kept held lines behind step so_far = (
   (
@@ -109,11 +90,11 @@ writes_all line_text first it next old new left before after kept held lines beh
     refl,
     subst (Appends before after) (sym (append-nil (flat_map line_text lines))) so_far,
   ),
-  all_read first it next old new left kept held lines behind step,
+  all_read (lines_left first) it next old new left kept held lines behind step,
 )
 
 -- a line was refused
-pub writes_refusal : (line_text : ReportLine → List ℕ) (first it next : Place) (start left later old new before middle after : Option (List ℕ)) (lines : List ReportLine) (number reason : ℕ) (answer : Status) → LeftOf first start lines it left → IsStep it next left later (RefusedNext number reason) → Appends before middle (flat_map line_text lines) → RefusesLine answer number reason middle after
+pub writes_refusal : (line_text : ReportLine → List ℕ) (first it next : Place) (start left later old new before middle after : Option (List ℕ)) (lines : List ReportLine) (number reason : ℕ) (answer : Status) → LeftOf (lines_left first) start lines it left → IsStep it next left later (RefusedNext number reason) → Appends before middle (flat_map line_text lines) → RefusesLine answer number reason middle after
     → AnswersAs (IsOutcomeBehind line_text first start) answer old new before after
 writes_refusal line_text first it next start left later old new before middle after lines number reason status.Refused behind step so_far refuses = (
   record { text = flat_map line_text lines ++ spelled (Refused number reason); status = status.Refused },
@@ -145,7 +126,7 @@ first_written line_text first (Some bytes) before last = record { lines = []; be
 pub next_written : (line_text : ReportLine → List ℕ) (first old new : Place) (start now left before middle after : Option (List ℕ)) (line : ReportLine) → WrittenSoFar line_text first start old now before middle → IsStep old new now left (Line line) → StepsOn old new line → Appends middle after (line_text line) → WrittenSoFar line_text first start new left before after
 next_written line_text first old new start now left before middle after line so_far step steps more = record {
   lines = so_far.lines ++ line ∷ [];
-  behind = left_next first start now left so_far.lines line old new so_far.behind step;
+  behind = left_next (lines_left first) start now left so_far.lines line old new so_far.behind step;
   written = written_next line_text before middle after so_far.lines line so_far.written more;
   last = steps.last;
 }

@@ -10,9 +10,9 @@ use Rattle.ddr_text.specs.ReportParts.{Refusal}
 use Rattle.ddr_text.specs.Spelling.{report_text, spelled}
 use Rattle.ddr_text.specs.declared.lines.LineFault.{LineFault}
 use Rattle.ddr_text.specs.declared.lines.ReportLine.{ReportLine}
-use Rattle.log_auditor.specs.Reading.{Placed, in_place, stage_after, judged_line, judged_rest, behind_line, stage_behind, refusal_at, lines_in}
-use Rattle.log_auditor.specs.declared.report_reader.Stage.{Stage}
-use Rattle.log_auditor.proofs.Parts.{placed_line}
+use Rattle.ddr_text.specs.ReportReading.{Placed, in_place, stage_after, judged_line, judged_rest, behind_line, stage_behind, refusal_at, lines_in}
+use Rattle.ddr_text.specs.declared.report_reader.Stage.{Stage}
+use Rattle.ddr_text.proofs.ReportReading.{placed_line}
 use Rattle.ddr_text.specs.Outcome.{refusal_text}
 use Rattle.ddr_cli.specs.Behind.{outcome_behind}
 use Rattle.ddr_cli.specs.Upgraded.{kept, kept_of}

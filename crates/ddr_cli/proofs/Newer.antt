@@ -16,8 +16,8 @@ use Rattle.ddr_text.specs.Separator.{Role, Ends, Faulty, Text, role_of_line, ver
 use Rattle.ddr_text.proofs.CleanParts.{HasNoFeed}
 use Rattle.ddr_text.proofs.Reopened.{IsSeparator, again, own-separator, reopens-with}
 use Rattle.log_auditor.specs.Findings.{finding_of, found_in}
-use Rattle.log_auditor.specs.Reading.{lines_in}
-use Rattle.log_auditor.specs.declared.report_reader.Stage.TheVariants.{Body}
+use Rattle.ddr_text.specs.ReportReading.{lines_in}
+use Rattle.ddr_text.specs.declared.report_reader.Stage.TheVariants.{Body}
 use Rattle.ddr_text.specs.Outcome.{Outcome, refusal_status, refusal_text}
 use Rattle.ddr_cli.specs.Upgraded.{newer, newer_heading, upgraded, upgraded_from, upgraded_with, kept_of, IsWellFormed}
 use Rattle.ddr_cli.proofs.UpgradedAs.{upgraded-with}

@@ -8,8 +8,8 @@ use Rattle.ddr_text.specs.Opening.{IsOpening}
 use Rattle.ddr_text.specs.declared.opening.Opening.TheVariants.{Accepted, Refused as RefusedOpening}
 use Rattle.speed_bin.specs.declared.header.Header.{Header}
 use Rattle.speed_bin.specs.Header.{shape_of}
-use Rattle.log_auditor.specs.Reading.{Place}
-use Rattle.log_auditor.specs.declared.report_reader.Stage.TheVariants.{Body}
+use Rattle.ddr_text.specs.ReportReading.{Place}
+use Rattle.ddr_text.specs.declared.report_reader.Stage.TheVariants.{Body}
 use Rattle.ddr_text.specs.Outcome.{AnswersAs, Outcome, RefusesLine, refused_opening}
 use Rattle.ddr_cli.specs.Behind.{IsOutcomeBehind}
 use Rattle.ddr_cli.specs.Shown.{IsShown, shown, shown_in, shown_line}

@@ -18,8 +18,8 @@ use Rattle.ddr_text.specs.declared.opening.Apart.{Apart}
 use Rattle.ddr_text.specs.declared.opening.Apart.TheVariants.{Accepted, Refused}
 use Rattle.speed_bin.specs.declared.header.Header.{Header}
 use Rattle.speed_bin.specs.Header.{shape_of}
-use Rattle.log_auditor.specs.Reading.{Place, lines_in, lines_left}
-use Rattle.log_auditor.specs.declared.report_reader.Stage.TheVariants.{Body}
+use Rattle.ddr_text.specs.ReportReading.{Place, lines_in, lines_left}
+use Rattle.ddr_text.specs.declared.report_reader.Stage.TheVariants.{Body}
 use Rattle.ddr_text.specs.Outcome.{AnswersAs, Outcome, RefusesLine, refused_opening}
 use Rattle.ddr_text.specs.Stop.{WriteCause, status_of}
 use Rattle.ddr_text.specs.declared.stop.Stop.{Stop}

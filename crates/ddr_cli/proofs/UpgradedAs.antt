@@ -7,8 +7,8 @@ use Rattle.speed_bin.specs.declared.header.Header.{Header}
 use Rattle.ddr_text.specs.AcceptedReport.{ReportLines}
 use Rattle.ddr_text.specs.Opening.{Heading, Accepts, Refuses, heading_in, opening_text, opening_of, with_heading, behind, judged, parts_of, reason_of}
 use Rattle.ddr_text.specs.Spelling.{spelled}
-use Rattle.log_auditor.specs.Reading.{lines_in}
-use Rattle.log_auditor.specs.declared.report_reader.Stage.TheVariants.{Body}
+use Rattle.ddr_text.specs.ReportReading.{lines_in}
+use Rattle.ddr_text.specs.declared.report_reader.Stage.TheVariants.{Body}
 use Rattle.ddr_text.specs.Outcome.{refusal_status, refused_opening}
 use Rattle.ddr_cli.specs.Behind.{outcome_behind}
 use Rattle.ddr_cli.specs.Upgraded.{newer_heading, upgraded, upgraded_from, upgraded_of, upgraded_with}

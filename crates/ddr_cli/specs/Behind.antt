@@ -6,8 +6,7 @@ use Rattle.std.specs.Io.KnownBytes.{Appends}
 use Rattle.ddr_io.specs.declared.line_reader.Line.TheVariants.{Text as TextAnswer}
 use Rattle.ddr_text.specs.Outcome.{Outcome, refusal_status, refusal_text}
 use Rattle.ddr_text.specs.declared.lines.ReportLine.{ReportLine}
-use Rattle.log_auditor.specs.Progress.{with_lines}
-use Rattle.log_auditor.specs.Reading.{Lines, Place, lines_left}
+use Rattle.ddr_text.specs.ReportReading.{LeftOf, Lines, Place, lines_left}
 
 -- ---- Lines
 
@@ -22,15 +21,9 @@ abbrev pub IsOutcomeBehind : (ReportLine → List ℕ) → Place → Option (Lis
 IsOutcomeBehind text place None it = ⊤
 IsOutcomeBehind text place (Some bytes) it = outcome_behind text (lines_left place bytes) ≡ it
 
--- the lines of the bytes at first are these, and then those that are left
-abbrev pub LeftOf : Place → Option (List ℕ) → List ReportLine → Place → Option (List ℕ) → Type 0
-LeftOf first None lines it left = ⊤
-LeftOf first (Some bytes) lines it None = ⊥
-LeftOf first (Some bytes) lines it (Some left) = lines_left first bytes ≡ with_lines lines (lines_left it left)
-
 -- these lines were read and written
 pub record WrittenSoFar (text : ReportLine → List ℕ) (first : Place) (start : Option (List ℕ)) (it : Place) (left : Option (List ℕ)) (before after : Option (List ℕ)) : Type 0 where
   pub lines : List ReportLine
-  pub behind : LeftOf first start lines it left
+  pub behind : LeftOf (lines_left first) start lines it left
   pub written : Appends before after (flat_map text lines)
   pub last : it.reader.last ≡ TextAnswer

@@ -10,8 +10,8 @@ use Rattle.ddr_text.specs.Opening.{Opens, Accepts, Refuses as RefusesOpening, op
 use Rattle.ddr_text.specs.declared.lines.ReportLine.{ReportLine}
 use Rattle.ddr_text.specs.declared.lines.ReportLine.TheVariants.{Issued, Value, Flip, Stat, End, Refused}
 use Rattle.speed_bin.specs.Header.{shape_of}
-use Rattle.log_auditor.specs.Reading.{lines_in}
-use Rattle.log_auditor.specs.declared.report_reader.Stage.TheVariants.{Body}
+use Rattle.ddr_text.specs.ReportReading.{lines_in}
+use Rattle.ddr_text.specs.declared.report_reader.Stage.TheVariants.{Body}
 use Rattle.ddr_text.specs.Outcome.{AnswersAs, Outcome, refused_opening}
 use Rattle.ddr_cli.specs.Behind.{outcome_behind}
 

@@ -10,8 +10,8 @@ use Rattle.speed_bin.specs.declared.header.Header.{Header}
 use Rattle.ddr_io.specs.declared.status.Status.{Status}
 use Rattle.ddr_text.specs.Opening.{Heading, heading_in, opening_text, behind, parts_of, with_feed, reason_of}
 use Rattle.ddr_text.specs.ReportParts.{Refusal}
-use Rattle.log_auditor.specs.Reading.{Lines, lines_in}
-use Rattle.log_auditor.specs.declared.report_reader.Stage.TheVariants.{Body}
+use Rattle.ddr_text.specs.ReportReading.{Lines, lines_in}
+use Rattle.ddr_text.specs.declared.report_reader.Stage.TheVariants.{Body}
 use Rattle.ddr_text.specs.Outcome.{AnswersAs, Outcome, refusal_status, refusal_text, refused_opening}
 
 -- ---- Bytes

@@ -5,8 +5,8 @@ ghost use Rattle.ddr_io.specs.declared.status.Status.TheVariants.{Ok as OkStatus
 ghost use Rattle.ddr_text.specs.Opening.{Accepts, Heading, opening_of, opening_text, parts_of};
 ghost use Rattle.ddr_text.specs.Spelling.{spelled};
 ghost use Rattle.log_auditor.specs.Findings.{finding_of};
-ghost use Rattle.log_auditor.specs.Reading.{lines_in};
-ghost use Rattle.log_auditor.specs.declared.report_reader.Stage.TheVariants.{Body};
+ghost use Rattle.ddr_text.specs.ReportReading.{lines_in};
+ghost use Rattle.ddr_text.specs.declared.report_reader.Stage.TheVariants.{Body};
 ghost use Rattle.speed_bin.specs.Header.{shape_of};
 ghost use Rattle.speed_bin.specs.declared.header.Header.{Header};
 ghost use Rattle.ddr_cli.specs.Upgraded.{IsWellFormed, newer_heading, upgraded};

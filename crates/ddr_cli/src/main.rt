@@ -3,8 +3,6 @@
 #![tactic(auto)]
 
 mod at_end;
-#[cfg(test)]
-mod audit_tests;
 mod command_line;
 mod fault;
 #[cfg(test)]

@@ -5,8 +5,7 @@ ghost use Rattle.ddr_cli.specs.Shown.{ShowAnswers};
 
 use crate::writing::{Wording, write_behind};
 use ddr_io::{LineReader, Sink, Source, Status};
-use ddr_text::{Opening, open_job, refuse};
-use log_auditor::ReportReader;
+use ddr_text::{Opening, ReportReader, open_job, refuse};
 use std::alloc::Global;
 
 /// Reads a report, and writes for each C line its clock and its command in readable form. A line that is not well formed

@@ -29,6 +29,9 @@ const JOB: &[u8] =
 const REPORT: &[u8] =
     b"format = 1\nbin = \"tiny\"\nrows = 16\nath = 5\neth = 3\nraaimt = 8\nraammt = 16\nrefresh = \"all\"\necs_every = 0\n---\nC 0 0805 000f\nC 4 0825 0000\nC 8 0845 0005\nC 12 0865 0003\nC 16 0885 0000\nC 20 08a5 0008\nC 24 08c5 0010\nC 28 08e5 0000\nC 32 0000 0000\nC 35 002d 0c00\nC 51 003d 0400\nD 2 0 11000000000000000000000000000000000000000000000000000000000000000000000000000000000000000000000000000000000000000000000000000000 ok\nC 54 000b\nS act 1\nS rd 1\nS wr 1\nS pre 1\nS refab 0\nS refsb 0\nS rfmab 0\nS rfmsb 0\nS ecs 0\nS alert 0\nS peak 1\nS found 0\nS lost 0\nS worst 0\nE 55\n";
 
+const SHOWN: &[u8] =
+    b"0 MRW m64 v15\n4 MRW m65 v0\n8 MRW m66 v5\n12 MRW m67 v3\n16 MRW m68 v0\n20 MRW m69 v8\n24 MRW m70 v16\n28 MRW m71 v0\n32 ACT g0 b0 r0\n35 WR g0 b0 c0\n51 RD g0 b0 c0\n54 PREAB\n";
+
 const MADE: &str =
     "format = 1\nbin = \"4800-prac\"\nrows = 65536\nath = 64\neth = 32\nraaimt = 32\nraammt = 64\nrefresh = \"all\"\necs_every = 8\n---\nR 1\nW 110622959 d4032c82f28c3e94e3dd751b306fdeaf798b74c9b4a7a92379c50377b886315bfc7cef55ecd00c841c4c4973da31b0c65a37bbe6dd1141ece618281753805f4a\nW 110622960 37ec446489d6bf49d877723a7dc89213c821f450842b2f61adddde953191fe79436f38a8a9fdb6a646bc32a5b5e3dcb19d8696e0de7a081319bf09b7590933af\nW 110622961 5d8569af99d1426d18cc9d42690f480ea09eab3f7af59d258220c41a710e139d20fe571f188d63fd0cadc936749724915cb2b2399179abe4b31df42421eb0782\nR 4096\n";
 
@@ -45,6 +48,23 @@ fn a_job_is_made(rt: HostRuntime) -> Result<(), Fail> {
     let (status, job) = run_with(rt.alloc(), &["gen", "1", "5"], b"left")?;
     assert_eq!(rt; status, Status::Ok);
     assert_eq!(rt; job.bytes(), MADE.as_bytes());
+    Ok(())
+}
+
+#[test]
+fn commands_are_shown(rt: HostRuntime) -> Result<(), Fail> {
+    let (status, shown) = run_with(rt.alloc(), &["show"], REPORT)?;
+    assert_eq!(rt; status, Status::Ok);
+    assert_eq!(rt; shown.bytes(), SHOWN);
+    Ok(())
+}
+
+#[test]
+fn a_refused_line_ends_what_is_shown(rt: HostRuntime) -> Result<(), Fail> {
+    let report = b"format = 1\nbin = \"tiny\"\nrows = 16\nath = 5\neth = 3\nraaimt = 8\nraammt = 16\nrefresh = \"all\"\necs_every = 0\n---\nC 3 001f\nQ\n";
+    let (status, shown) = run_with(rt.alloc(), &["show"], report)?;
+    assert_eq!(rt; status, Status::Refused);
+    assert_eq!(rt; shown.bytes(), b"3 NOP\nX 2 2\n".as_slice());
     Ok(())
 }
 

@@ -10,8 +10,7 @@ ghost use Rattle.ddr_cli.specs.Upgraded.{UpgradeAnswers, newer};
 
 use crate::writing::{Wording, write_behind};
 use ddr_io::{LineReader, Sink, Source, Status};
-use ddr_text::{Apart, HeaderText, Stop, open_apart, put, refuse, report_lines};
-use log_auditor::ReportReader;
+use ddr_text::{Apart, HeaderText, ReportReader, Stop, open_apart, put, refuse, report_lines};
 use std::alloc::Global;
 
 /// Reads a report, and writes it in version 2: the separator `---` becomes `--- 2 4 8`, and all else stays. A line that is

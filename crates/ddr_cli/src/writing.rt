@@ -12,8 +12,7 @@ ghost use Rattle.ddr_cli.specs.Wording.{written_as};
 use crate::shown::show_line;
 use arrayvec::ArrayVec;
 use ddr_io::{Line, Sink, Source, Status};
-use ddr_text::{ReportLine, Stop, put, refuse, write_report_line};
-use log_auditor::{Next, ReportReader};
+use ddr_text::{Next, ReportLine, ReportReader, Stop, put, refuse, write_report_line};
 
 /// How a line of a report is written again.
 #[derive(Clone, Copy, Debug, PartialEq, Eq)]

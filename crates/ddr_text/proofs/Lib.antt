@@ -2,11 +2,13 @@ mod Cuts
 mod Decoded
 mod HexBytes
 pub mod LineParts
+pub mod LinesInFront
 mod LowerHex
 mod Names
 mod Numerals
 pub mod Parts
 pub mod ReportLaws
+pub mod ReportReading
 mod Steps
 pub mod TraceLaws
 mod WordLaws

@@ -9,7 +9,7 @@ use Rattle.std.proofs.lemmas.List.Elements.{All-nil}
 use Rattle.ddr_io.specs.Line.{HasNoFeed, IsNextLine, next_bytes}
 use Rattle.ddr_io.specs.declared.line_reader.Line.TheVariants.{Text, End, TooLong, Unended}
 use Rattle.ddr_text.specs.declared.opening.Front.TheVariants as front
-use Rattle.ddr_text.specs.Front.{IsFront}
+use Rattle.ddr_text.specs.Front.{HeadsAgain, IsFront}
 use Rattle.ddr_text.specs.Opening.{Heading, Refuses, IsUnopened, is_feed, parts_of, with_feed, is_long, is_large, after_line, heading_in, with_heading, opening_of}
 use Rattle.ddr_text.specs.Reason.{number_of}
 use Rattle.ddr_text.specs.declared.reason.Reason.{Reason}
@@ -60,6 +60,18 @@ before-line text line longer whole before clean few is small = subst (λ t. Goes
     ∙ before (with_feed line ++ more) ∙ two_parts text line more clean few
     ∙ ap (λ k. after_line text line k (heading_in (text ++ with_feed line) (parts_of more))) is
     ∙ ap (λ b. if b then Err 17 else heading_in (text ++ with_feed line) (parts_of more)) small)
+
+-- the text and a separator head whatever they begin
+pub heads-again : (text line separator : List ℕ) (version : Figures) → separator ≡ with_feed line → GoesBefore text → HasNoFeed line → length line < 512
+    → role_of_line line ≡ Ends version → HeadsAgain (front.Text text separator version)
+heads-again text line separator version whole before clean few is = (
+  line,
+  whole,
+  λ more.
+      ap (λ l. heading_in [] (parts_of l)) (append_assoc text separator more ∙ ap (λ s. text ++ (s ++ more)) whole)
+      ∙ before (with_feed line ++ more) ∙ two_parts text line more clean few
+      ∙ ap (λ k. after_line text line k (heading_in (text ++ with_feed line) (parts_of more))) is,
+)
 
 -- a text with no separator, and then less than a line, opens no job
 one_part : (text held : List ℕ) → HasNoFeed held → heading_in text (parts_of held) ≡ (if is_long held then Err 17 else Err 16)

@@ -1,12 +1,12 @@
 -- What is known of an opening whose header text and separator are apart.
-use Rattle.std.specs.Prelude.{ℕ, ◌≡◌, ⊤, List, [], Some, None, Ok}
+use Rattle.std.specs.Prelude.{ℕ, ◌≡◌, ◌++◌, ⊤, List, [], Some, None, Ok}
 use Rattle.std.specs.declared.option.Option.{Option}
 use Rattle.ddr_io.specs.declared.line_reader.Line.{Line}
 use Rattle.ddr_io.specs.declared.line_reader.Line.TheVariants.{Text as TextLine}
 use Rattle.speed_bin.specs.Document.{header_stated}
 use Rattle.speed_bin.specs.Header.{IsAccepted}
 use Rattle.speed_bin.specs.declared.header.Header.{Header}
-use Rattle.ddr_text.specs.Opening.{Heading, IsReason, Refuses, heading_in, opening_of, opening_text, parts_of, behind, with_feed}
+use Rattle.ddr_text.specs.Opening.{Heading, IsReason, Accepts, Refuses, heading_in, opening_of, opening_text, parts_of, behind, with_feed}
 use Rattle.ddr_text.specs.Separator.{Ends, role_of_line}
 use Rattle.ddr_text.specs.declared.opening.Apart.{Apart}
 use Rattle.ddr_text.specs.declared.opening.Apart.TheVariants.{Accepted, Refused, Failed}
@@ -38,3 +38,9 @@ abbrev pub ApartGoesOn : Line → Apart → Type 0
 ApartGoesOn last (Accepted header text separator) = last ≡ TextLine
 ApartGoesOn last (Refused reason) = ⊤
 ApartGoesOn last Failed = ⊤
+
+-- the text and the separator of a header that is accepted open whatever they begin
+abbrev pub ApartAgain : Apart → Type 0
+ApartAgain (Accepted header text separator) = (more : List ℕ) → opening_of ((text ++ separator) ++ more) ≡ Accepts header (text ++ separator) more
+ApartAgain (Refused reason) = ⊤
+ApartAgain Failed = ⊤

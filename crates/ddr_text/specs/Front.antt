@@ -37,6 +37,14 @@ HasReason (Text text separator version) = (line : List ℕ) × (separator ≡ wi
 HasReason (RefusedFront reason) = IsOpeningReason reason
 HasReason FailedFront = ⊤
 
+-- the text and the separator head whatever they begin
+abbrev pub HeadsAgain : Front → Type 0
+HeadsAgain (Text text separator version) =
+    (line : List ℕ) × (separator ≡ with_feed line)
+    × ((more : List ℕ) → heading_in [] (parts_of ((text ++ separator) ++ more)) ≡ Ok (record { text = text; separator = line; version = version }))
+HeadsAgain (RefusedFront reason) = ⊤
+HeadsAgain FailedFront = ⊤
+
 -- the heading of a job, or the reason that there is none
 abbrev pub IsFront : Option (List ℕ) → Option (List ℕ) → Front → Type 0
 IsFront None new front = ⊤

@@ -5,6 +5,7 @@ pub mod Grammar
 pub mod ReportGrammar
 pub mod Spelling
 pub mod ReportParts
+pub mod ReportReading
 pub mod Parts
 pub mod Ranges
 pub mod Reason

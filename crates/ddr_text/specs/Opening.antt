@@ -117,3 +117,9 @@ abbrev pub IsAnswer : Opening → Type 0
 IsAnswer (Accepted header text) = IsAccepted header × States text header
 IsAnswer (Refused reason) = IsReason reason
 IsAnswer Failed = ⊤
+
+-- the text of a header that is accepted opens whatever it begins, also where the bytes of the job are not known
+abbrev pub OpensAgain : Opening → Type 0
+OpensAgain (Accepted header text) = (more : List ℕ) → opening_of (text ++ more) ≡ Accepts header text more
+OpensAgain (Refused reason) = ⊤
+OpensAgain Failed = ⊤

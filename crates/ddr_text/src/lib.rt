@@ -1,4 +1,4 @@
-//! The lines of traces and reports, and the opening of a job; writing them into a sink.
+//! The lines of traces and reports, and the opening of a job; reading a report line by line, and writing lines into a sink.
 #![tactic(auto)]
 
 pub mod digits;
@@ -17,6 +17,9 @@ mod reason_text;
 mod report_line;
 #[cfg(test)]
 mod report_line_tests;
+mod report_reader;
+#[cfg(test)]
+mod report_reader_tests;
 mod separator;
 mod spelling;
 #[cfg(test)]
@@ -36,6 +39,7 @@ pub use opening::{Apart, Opening, open_apart, open_job};
 pub use pieces::{put_bytes, put_number, put_spaced, put_text};
 pub use reason::Reason;
 pub use report_line::{read_report_line, report_lines};
+pub use report_reader::{Next, ReportReader, Stage};
 pub use spelling::write_report_line;
 pub use stop::Stop;
 pub use trace_line::{read_trace_line, trace_grammar};

@@ -4,10 +4,10 @@ ghost use Rattle.std.specs.Io.KnownBytes.{Consumes};
 ghost use Rattle.ddr_io.specs.Faults.{Rose};
 ghost use Rattle.ddr_io.specs.Line.{next_bytes};
 ghost use Rattle.speed_bin.specs.Document.{header_stated};
-ghost use Rattle.ddr_text.specs.Opening.{IsOpening, IsAnswer, IsUnopened, judged, with_feed, is_large};
+ghost use Rattle.ddr_text.specs.Opening.{IsOpening, IsAnswer, IsUnopened, OpensAgain, judged, with_feed, is_large};
 ghost use Rattle.ddr_text.specs.Separator.{Ends, role_of_line};
-ghost use Rattle.ddr_text.specs.Apart.{IsApart, IsApartAnswer, ApartGoesOn};
-ghost use Rattle.ddr_text.specs.Front.{IsFront, GoesOn, FrontGoesOn, HasReason, IsJudged, IsOpeningReason};
+ghost use Rattle.ddr_text.specs.Apart.{IsApart, IsApartAnswer, ApartAgain, ApartGoesOn};
+ghost use Rattle.ddr_text.specs.Front.{IsFront, GoesOn, FrontGoesOn, HasReason, HeadsAgain, IsJudged, IsOpeningReason};
 ghost use Rattle.ddr_text.specs.declared.opening.Opening.TheVariants.{Accepted as AcceptedOpening};
 
 use crate::Reason;
@@ -64,6 +64,7 @@ pub fn open_job<S: Source>(
     requires { reader.old.last ≡ Line.Text }
     ensures opening { IfOk result (IsOpening (next_bytes reader.old.held (S.left source.old)) (next_bytes reader.new.held (S.left source.new))) }
     ensures answer { IfOk result IsAnswer }
+    ensures again { IfOk result OpensAgain }
     ensures going_on { IfOk result (GoesOn reader.new.last) }
 
     // Only a fault of the source is told as one, and only where the bytes that were taken open no job.
@@ -106,6 +107,7 @@ pub fn open_apart<S: Source>(
     requires { reader.old.last ≡ Line.Text }
     ensures opening { IfOk result (IsApart (next_bytes reader.old.held (S.left source.old)) (next_bytes reader.new.held (S.left source.new))) }
     ensures answer { IfOk result IsApartAnswer }
+    ensures again { IfOk result ApartAgain }
     ensures going_on { IfOk result (ApartGoesOn reader.new.last) }
 
     // Only a fault of the source is told as one, and only where the bytes that were taken open no job.
@@ -133,6 +135,7 @@ fn read_front<S: Source>(
     requires { reader.old.last ≡ Line.Text }
     ensures front { IfOk result (IsFront (next_bytes reader.old.held (S.left source.old)) (next_bytes reader.new.held (S.left source.new))) }
     ensures reason { IfOk result HasReason }
+    ensures again { IfOk result HeadsAgain }
     ensures going_on { IfOk result (FrontGoesOn reader.new.last) }
     ensures failed { result ≡ Ok Front.Failed → Rose (S.faults source.old) (S.faults source.new) }
     ensures unopened { result ≡ Ok Front.Failed → IsUnopened (next_bytes reader.old.held (S.left source.old)) (S.left source.new) }

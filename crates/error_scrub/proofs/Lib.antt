@@ -1,4 +1,5 @@
 pub mod ChangeLemmas
+pub mod LineBytes
 mod TameWording
 pub mod WordKinds
 pub mod Wording

@@ -9,9 +9,10 @@ use Rattle.ondie_ecc.specs.Codeword.{is_check, data_bits_below, syndrome_below, 
 use Rattle.ondie_ecc.specs.Repaired.{mended}
 use Rattle.ondie_ecc.specs.declared.state.ReadState.{ReadState}
 use Rattle.error_scrub.specs.declared.cells.Cells.{Cells}
+use Rattle.error_scrub.specs.declared.stored.Stored.{Stored}
 use Rattle.error_scrub.specs.declared.cells.LineRead.{LineRead}
 use Rattle.error_scrub.specs.Reading.{data_read, state_of, worse}
-use Rattle.error_scrub.specs.Cells.{line_read, scrubbed, stored, word_in, zero_word}
+use Rattle.error_scrub.specs.Cells.{line_read, read_of, scrubbed, stored, word_in, zero_word}
 use Rattle.error_scrub.specs.Scrubbing.{is_fixed, is_lost}
 use Rattle.error_scrub.proofs.WordKinds.{clean_fixed, clean_lost}
 
@@ -54,13 +55,17 @@ over n a z b la lz =
     rw (front, rest, none, append-nil b)
 
 -- a reading, from the words that it found
-pub read_is : (cells : Cells) (line : ℕ) (bytes : List ℕ) (state : ReadState) (w0 w1 w2 w3 : List ℕ)
-    → w0 ≡ stored cells line 0 → w1 ≡ stored cells line 1 → w2 ≡ stored cells line 2 → w3 ≡ stored cells line 3
+pub read_is : (kept : Option Stored) (bytes : List ℕ) (state : ReadState) (w0 w1 w2 w3 : List ℕ)
+    → w0 ≡ word_in kept 0 → w1 ≡ word_in kept 1 → w2 ≡ word_in kept 2 → w3 ≡ word_in kept 3
     → bytes ≡ data_read w0 ++ data_read w1 ++ data_read w2 ++ data_read w3
     → state ≡ worse (worse (state_of w0) (state_of w1)) (worse (state_of w2) (state_of w3))
-    → ◌≡◌ {A = LineRead} (record { bytes = bytes; state = state }) (line_read cells line)
-unfolding line_read
-read_is cells line bytes state w0 w1 w2 w3 h0 h1 h2 h3 isbytes isstate = rw (isbytes, isstate, h0, h1, h2, h3)
+    → ◌≡◌ {A = LineRead} (record { bytes = bytes; state = state }) (read_of kept)
+read_is kept bytes state w0 w1 w2 w3 h0 h1 h2 h3 isbytes isstate = rw (isbytes, isstate, h0, h1, h2, h3)
+
+-- what is read of what is kept is the reading of the line
+pub line_is : (cells : Cells) (line : ℕ) (kept : Option Stored) → kept ≡ get nat_cmp cells.kept line → read_of kept ≡ line_read cells line
+unfolding line_read stored
+line_is cells line kept e = ap read_of e
 
 pub joined_is : (b0 b1 b2 b3 d0 d1 d2 d3 : List ℕ) → b0 ≡ d0 → b1 ≡ d1 → b2 ≡ d2 → b3 ≡ d3 → b0 ++ b1 ++ b2 ++ b3 ≡ d0 ++ d1 ++ d2 ++ d3
 joined_is b0 b1 b2 b3 d0 d1 d2 d3 h0 h1 h2 h3 = cc
@@ -72,7 +77,7 @@ worst_is s a b a0 a1 b0 b1 t0 t1 t2 t3 hs ha hb h0 h1 h2 h3 = cc
 -- a line that is not kept has words of zeros
 pub zero_at : (cells : Cells) (line device : ℕ) → None ≡ get nat_cmp cells.kept line → stored cells line device ≡ zero_word
 unfolding stored
-zero_at cells line device none = sym (ap (λ (w : Option (List Codeword)). word_in w device) none)
+zero_at cells line device none = sym (ap (λ (w : Option Stored). word_in w device) none)
 
 -- a scrub leaves the words of such a line
 pub scrubbed-zero : (cells : Cells) (line device : ℕ) → None ≡ get nat_cmp cells.kept line → stored cells line device ≡ scrubbed cells line device

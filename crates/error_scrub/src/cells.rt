@@ -1,9 +1,10 @@
-//! The stored lines, each as four codewords.
+//! The stored lines.
 ghost use Rattle.std.specs.Prelude.{◌≡◌, ◌≢◌, ◌<◌, ◌≤◌, ◌+◌, ◌*◌, ℕ, [], ◌∷◌, ◌++◌, OnOk, OnErr, take, drop, slice_index_or, slice_range};
 ghost use Rattle.command_words.specs.Geometry.{lines_of};
 ghost use Rattle.command_words.specs.Place.{line_of, IsInside};
 
-use crate::words::{Faults, joined, mend, protected, read_word, worse};
+use crate::stored::{Stored, mend_stored, read_stored, words_of};
+use crate::words::Faults;
 use command_words::{Geometry, Place, unmap};
 use ddr_io::OutOfMemory;
 use ondie_ecc::{Codeword, ReadState, flip};
@@ -22,12 +23,12 @@ pub struct LineRead {
 #[derive(Drop)]
 pub struct Cells {
     geometry: Geometry,
-    kept: BTreeMap<u32, [Codeword; 4]>,
+    kept: BTreeMap<u32, Stored>,
 }
 
 #[tactic(auto, unfolding(crate::specs::Cells::stored, crate::specs::Cells::cells_shape))]
 impl Cells {
-    ghost use Rattle.error_scrub.specs.Cells.{zero_word, stored, cells_shape, line_read, written, flipped, scrubbed, ChangesLine, IsUnchanged};
+    ghost use Rattle.error_scrub.specs.Cells.{zero_word, stored, cells_shape, line_read, written, flipped, scrubbed, word_of, ChangesLine, IsUnchanged};
     ghost use Rattle.error_scrub.specs.Scrubbing.{words_at, fixed_in, lost_in};
 
     /// Every line zero.
@@ -49,7 +50,7 @@ impl Cells {
         ensures shape { cells_shape self.new ≡ cells_shape self.old }
     {
         let line = unmap(place, self.geometry).get();
-        self.keep(line, protected(bytes))
+        self.keep(line, Stored::Bytes(*bytes))
     }
 
     /// The bytes of the line after correction. Nothing is written back.
@@ -58,17 +59,12 @@ impl Cells {
         ensures { result ≡ line_read self.now (line_of place (cells_shape self.now)) }
     {
         let line = unmap(place, self.geometry).get();
-        let words = self.words(line);
-        let first = read_word(words[0]);
-        let second = read_word(words[1]);
-        let third = read_word(words[2]);
-        let fourth = read_word(words[3]);
-        LineRead {
-            bytes: joined(&first.bytes, &second.bytes, &third.bytes, &fourth.bytes),
-            state: worse(
-                worse(first.state, second.state),
-                worse(third.state, fourth.state),
-            ),
+        match self.kept.get(&line) {
+            Some(stored) => read_stored(stored),
+            None => LineRead {
+                bytes: [0; 64],
+                state: ReadState::Clean,
+            },
         }
     }
 
@@ -85,7 +81,7 @@ impl Cells {
         let line = unmap(place, self.geometry).get();
         let mut words = self.words(line);
         words[usize::from(device)] = flip(words[usize::from(device)], bit);
-        self.keep(line, words)
+        self.keep(line, Stored::Words(words))
     }
 
     /// Repairs the four codewords of a line: the fixed ones are written back, the lost ones stay.
@@ -97,7 +93,7 @@ impl Cells {
         ensures few { result.fixed + result.lost ≤ 4 }
     {
         match self.kept.get_mut(&line) {
-            Some(words) => mend(words),
+            Some(stored) => mend_stored(stored),
             None => Faults { fixed: 0, lost: 0 },
         }
     }
@@ -107,19 +103,19 @@ impl Cells {
         ensures { (device : ℕ) → device < 4 → (slice_index_or result device (record { 0 = [] })).0 ≡ stored self.now line device }
     {
         match self.kept.get(&line) {
-            Some(words) => *words,
+            Some(stored) => words_of(stored),
             None => [Codeword([0; 17]); 4],
         }
     }
 
-    // The line has these codewords from now on.
-    fn keep(&mut self, line: u32, words: [Codeword; 4]) -> Result<(), OutOfMemory>
+    // This is kept of the line from now on.
+    fn keep(&mut self, line: u32, stored: Stored) -> Result<(), OutOfMemory>
         requires { line < lines_of (cells_shape self.old) }
-        ensures ok { OnOk result (ChangesLine self.old self.new line (λ device. (slice_index_or words device (record { 0 = [] })).0)) }
+        ensures ok { OnOk result (ChangesLine self.old self.new line (word_of stored)) }
         ensures err { OnErr result (IsUnchanged self.old self.new) }
         ensures shape { cells_shape self.new ≡ cells_shape self.old }
     {
-        match self.kept.insert(line, words) {
+        match self.kept.insert(line, stored) {
             Ok(_) => Ok(()),
             Err(refused) => Err(AllocError::from(refused).into()),
         }

@@ -1,20 +1,21 @@
 -- The end of a merge: no queue has a rest.
-use Rattle.std.proofs.Common.{◌≡◌, ℕ, zero, suc, ◌<◌, Bool, true, false, cond, nat_lt, Option, Some, None, List, [], ◌∷◌, ◌++◌, length, refl, sym, ap, ◌∙◌, subst, arith}
-use Rattle.std.specs.Io.KnownBytes.{Appends}
+use Rattle.std.proofs.Common.{◌≡◌, ℕ, zero, suc, ◌<◌, Bool, true, false, cond, nat_lt, inl, inr, Option, Some, None, List, [], ◌∷◌, ◌++◌, length, refl, sym, ap, ◌∙◌, subst, arith}
+use Rattle.std.specs.Io.KnownBytes.{Appends, Consumes}
 use Rattle.std.proofs.KnownBytes.{Appends-trans}
 use Rattle.ddr_io.specs.Line.{next_bytes}
 use Rattle.ddr_io.specs.Sink.{AppendsPrefix}
 use Rattle.ddr_text.specs.Opening.{parts_of}
-use Rattle.fair_queue.specs.Arrivals.{AreInside, Input, input_from}
+use Rattle.fair_queue.specs.Arrivals.{AreInside, Input, input_from, input_of}
 use Rattle.fair_queue.specs.Admitting.{AdmitsIf, IsAdmitted}
-use Rattle.fair_queue.specs.Machine.{Queued, after, queue_of, has_room, first_of, next_port, first_rest, is_empty}
+use Rattle.fair_queue.specs.Machine.{Queued, after, filled, queue_of, has_room, first_of, next_port, first_rest, is_empty}
 use Rattle.fair_queue.specs.Merged.{ending, merged_behind}
-use Rattle.fair_queue.specs.Merging.{Merges, BeginsToMerge, GivesIf, ReadsToEnd}
-use Rattle.fair_queue.specs.Reading.{Place, EndsAt, EndsWith, IsStopped, left_in, left_behind, is_bad}
+use Rattle.fair_queue.specs.Merging.{Gives, Merges, BeginsToMerge, ReadsEnough}
+use Rattle.fair_queue.specs.Reading.{Place, EndsAt, EndsWith, IsStopped, MayFollow, held_in, left_in, left_behind, is_bad, unread}
 use Rattle.fair_queue.specs.declared.port_lines.Ahead.{Ahead}
 use Rattle.fair_queue.specs.declared.port_lines.Ahead.TheVariants.{Unknown, Waits, Bad, End}
 use Rattle.ddr_text.proofs.Prefixes.{prefix-behind}
-use Rattle.fair_queue.proofs.Rounding.{AreFull, IsFilled}
+use Rattle.fair_queue.proofs.Advancing.{behind, no-end-bad}
+use Rattle.fair_queue.proofs.Rounding.{IsFilled}
 use Rattle.fair_queue.proofs.Rounds.{text-none}
 
 pub none-next : (old new : Queued) → IsAdmitted old new None → next_port old ≡ None
@@ -80,32 +81,34 @@ ends-bad queued it rest Bad e n low i s = ap (λ a. (left_behind a it.reader.lin
 ends-bad queued it rest End e n low i s = ap (λ a. (left_behind a it.reader.line (input_from it.number (parts_of rest))).is_bad) e
 
 -- behind what was written the text has no more than its ending
-ends-text : (cap count : ℕ) (bytes rest : List ℕ) (queued new : Queued) (it : Place) (text : List ℕ) → GivesIf cap count (Some bytes) (Some rest) queued it text → AreFull (Some bytes) (Some rest) queued it → queued.turn < 4 → IsStopped queued it.ahead → IsAdmitted queued new None
-    → text ++ ending (is_bad it.ahead) ≡ merged_behind cap bytes
+ends-text : (cap count : ℕ) (bytes rest : List ℕ) (queued new : Queued) (it : Place) (text : List ℕ) → Gives cap count bytes rest queued it text → filled queued (left_in it rest).lines ≡ record { queued = queued; left = (left_in it rest).lines } → queued.turn < 4 → IsStopped queued it.ahead
+    → IsAdmitted queued new None → text ++ ending (is_bad it.ahead) ≡ merged_behind cap bytes
 ends-text cap count bytes rest queued new it text m full low s a =
     let none = none-next queued new a in
     ap (λ b. text ++ ending b) (sym (ends-bad queued it rest it.ahead refl none low m.inside s))
     ∙ sym (m.whole ∙ ap (λ l. text ++ l) (text-none cap count queued (left_in it rest) full none))
 
-merges-of : (cap count : ℕ) (start now : Option (List ℕ)) (queued new : Queued) (it : Place) (before mid after : Option (List ℕ)) (text : List ℕ) → GivesIf cap count start now queued it text → AreFull start now queued it → Appends before mid text → queued.turn < 4 → IsStopped queued it.ahead → IsAdmitted queued new None
+pub merges-end : (cap count : ℕ) (start now : Option (List ℕ)) (queued new : Queued) (it : Place) (before mid after : Option (List ℕ)) → IsFilled cap count start now queued it before mid → EndsAt start it.ahead now → queued.turn < 4 → IsStopped queued it.ahead → IsAdmitted queued new None
     → Appends mid after (ending (is_bad it.ahead)) → Merges cap start before after
-merges-of cap count None now queued new it before mid after text m full v low s a w = (text ++ ending (is_bad it.ahead), tt, Appends-trans before mid after text (ending (is_bad it.ahead)) v w)
-merges-of cap count (Some bytes) None queued new it before mid after text m full v low s a w = absurd m
-merges-of cap count (Some bytes) (Some rest) queued new it before mid after text m full v low s a w =
-    (text ++ ending (is_bad it.ahead), ends-text cap count bytes rest queued new it text m full low s a, Appends-trans before mid after text (ending (is_bad it.ahead)) v w)
+merges-end cap count start now queued new it before mid after f e low s a w =
+    let m = f.merged.gives in
+    let b = behind start now it.ahead m.taken m.took e in (
+      m.taken ++ b.rest,
+      b.tells,
+      subst (Appends before after) (ends-text cap count (m.taken ++ b.rest) b.rest queued new it f.merged.text (m.holds b.rest b.may) (f.full b.rest b.may) low s a)
+          (Appends-trans before mid after f.merged.text (ending (is_bad it.ahead)) f.merged.wrote w),
+    )
 
-pub merges-end : (cap count : ℕ) (start now : Option (List ℕ)) (queued new : Queued) (it : Place) (before mid after : Option (List ℕ)) → IsFilled cap count start now queued it before mid → queued.turn < 4 → IsStopped queued it.ahead → IsAdmitted queued new None → Appends mid after (ending (is_bad it.ahead)) → Merges cap start before after
-merges-end cap count start now queued new it before mid after f low s a w = merges-of cap count start now queued new it before mid after f.merged.text f.merged.gives f.full f.merged.wrote low s a w
-
-cut-of : (cap count : ℕ) (start now : Option (List ℕ)) (queued new : Queued) (it : Place) (before mid after : Option (List ℕ)) (text : List ℕ) → GivesIf cap count start now queued it text → AreFull start now queued it → Appends before mid text → queued.turn < 4 → IsStopped queued it.ahead → IsAdmitted queued new None
+pub cut-end : (cap count : ℕ) (start now : Option (List ℕ)) (queued new : Queued) (it : Place) (before mid after : Option (List ℕ)) → IsFilled cap count start now queued it before mid → EndsAt start it.ahead now → queued.turn < 4 → IsStopped queued it.ahead → IsAdmitted queued new None
     → AppendsPrefix mid after (ending (is_bad it.ahead)) → BeginsToMerge cap start before after
-cut-of cap count None now queued new it before mid after text m full v low s a w = (text ++ ending (is_bad it.ahead), tt, prefix-behind before mid after text (ending (is_bad it.ahead)) v w)
-cut-of cap count (Some bytes) None queued new it before mid after text m full v low s a w = absurd m
-cut-of cap count (Some bytes) (Some rest) queued new it before mid after text m full v low s a w =
-    (text ++ ending (is_bad it.ahead), ends-text cap count bytes rest queued new it text m full low s a, prefix-behind before mid after text (ending (is_bad it.ahead)) v w)
-
-pub cut-end : (cap count : ℕ) (start now : Option (List ℕ)) (queued new : Queued) (it : Place) (before mid after : Option (List ℕ)) → IsFilled cap count start now queued it before mid → queued.turn < 4 → IsStopped queued it.ahead → IsAdmitted queued new None → AppendsPrefix mid after (ending (is_bad it.ahead)) → BeginsToMerge cap start before after
-cut-end cap count start now queued new it before mid after f low s a w = cut-of cap count start now queued new it before mid after f.merged.text f.merged.gives f.full f.merged.wrote low s a w
+cut-end cap count start now queued new it before mid after f e low s a w =
+    let m = f.merged.gives in
+    let b = behind start now it.ahead m.taken m.took e in (
+      m.taken ++ b.rest,
+      b.tells,
+      subst (AppendsPrefix before after) (ends-text cap count (m.taken ++ b.rest) b.rest queued new it f.merged.text (m.holds b.rest b.may) (f.full b.rest b.may) low s a)
+          (prefix-behind before mid after f.merged.text (ending (is_bad it.ahead)) f.merged.wrote w),
+    )
 
 -- ---- What was read
 
@@ -117,19 +120,40 @@ none-left : (xs : List ℕ) (left : Option (List ℕ)) → next_bytes xs left �
 none-left xs None e = cc
 none-left xs (Some ys) e = let f : xs ++ ys ≡ [] = cc in ap (λ l. Some l) (none-behind xs ys f)
 
-ahead-end : (queued : Queued) (it : Place) (rest xs : List ℕ) (left : Option (List ℕ)) (ahead : Ahead) → it.ahead ≡ ahead → next_port queued ≡ None → queued.turn < 4 → AreInside (left_in it rest).lines → IsStopped queued ahead → is_bad ahead ≡ false → EndsWith ahead (next_bytes xs left) → left ≡ Some []
-ahead-end queued it rest xs left Unknown e n low i s b w = absurd s
-ahead-end queued it rest xs left (Waits port) e n low i s b w = absurd (none-waits queued it rest port e n low i s)
-ahead-end queued it rest xs left Bad e n low i s b w = cc
-ahead-end queued it rest xs left End e n low i s b w = none-left xs left w
-
-reads-of : (cap count : ℕ) (start now : Option (List ℕ)) (queued new : Queued) (it : Place) (text xs : List ℕ) (left : Option (List ℕ)) → GivesIf cap count start now queued it text → queued.turn < 4 → IsStopped queued it.ahead → IsAdmitted queued new None → EndsAt start it.ahead (next_bytes xs left) → ReadsToEnd start left
-reads-of cap count None now queued new it text xs left m low s a e = tt
-reads-of cap count (Some bytes) None queued new it text xs left m low s a e = absurd m
-reads-of cap count (Some bytes) (Some rest) queued new it text xs left m low s a e = λ fine.
+-- behind a bad line, with more bytes left, those that were taken decide
+decides : (cap count : ℕ) (bytes : List ℕ) (x : ℕ) (xs : List ℕ) (queued new : Queued) (it : Place) (before mid : Option (List ℕ)) → IsFilled cap count (Some bytes) (Some (x ∷ xs)) queued it before mid → it.ahead ≡ Bad → queued.turn < 4 → IsStopped queued it.ahead → IsAdmitted queued new None
+    → ((input_of bytes).is_bad ≡ true) × (taken : List ℕ) × (bytes ≡ taken ++ x ∷ xs) × ((more : List ℕ) → merged_behind cap (taken ++ more) ≡ merged_behind cap bytes)
+decides cap count bytes x xs queued new it before mid f e low s a =
+    let m = f.merged.gives in
+    let any : (more : List ℕ) → MayFollow it.ahead (Some (x ∷ xs)) more = λ more. (λ k. absurd (no-end-bad it.ahead e k), λ k. let g : Some (x ∷ xs) ≡ Some [] = k in cc) in
+    let ends : (more : List ℕ) → f.merged.text ++ ending (is_bad it.ahead) ≡ merged_behind cap (m.taken ++ more) = λ more. ends-text cap count (m.taken ++ more) more queued new it f.merged.text (m.holds more (any more)) (f.full more (any more)) low s a in
     let none = none-next queued new a in
-    ahead-end queued it rest xs left it.ahead refl none low m.inside s (sym (ends-bad queued it rest it.ahead refl none low m.inside s) ∙ sym m.bad ∙ fine) e
+    let own = m.holds (x ∷ xs) (any (x ∷ xs)) in (
+      ap (λ l. (input_of l).is_bad) m.took ∙ own.bad ∙ ends-bad queued it (x ∷ xs) it.ahead refl none low own.inside s ∙ ap is_bad e,
+      m.taken,
+      m.took,
+      λ more. sym (ends more) ∙ ends (x ∷ xs) ∙ ap (merged_behind cap) (sym m.took),
+    )
 
-pub reads-end : (cap count : ℕ) (start now : Option (List ℕ)) (queued new : Queued) (it : Place) (before mid : Option (List ℕ)) (xs : List ℕ) (left : Option (List ℕ)) → IsFilled cap count start now queued it before mid → queued.turn < 4 → IsStopped queued it.ahead → IsAdmitted queued new None
-    → EndsAt start it.ahead (next_bytes xs left) → ReadsToEnd start left
-reads-end cap count start now queued new it before mid xs left f low s a e = reads-of cap count start now queued new it f.merged.text xs left f.merged.gives low s a e
+-- the line ahead, where the bytes are known
+reads-of : (cap count : ℕ) (bytes : List ℕ) (left : Option (List ℕ)) (queued new : Queued) (it : Place) (before mid : Option (List ℕ)) (ahead : Ahead) → it.ahead ≡ ahead → IsFilled cap count (Some bytes) (unread it left) queued it before mid → EndsWith it.ahead (unread it left) → queued.turn < 4
+    → IsStopped queued it.ahead → IsAdmitted queued new None → ReadsEnough cap (Some bytes) left
+reads-of cap count bytes left queued new it before mid Unknown e f w low s a = absurd (subst (IsStopped queued) e s)
+reads-of cap count bytes left queued new it before mid (Waits port) e f w low s a =
+    let b = behind (Some bytes) (unread it left) it.ahead f.merged.gives.taken f.merged.gives.took w in
+    absurd (none-waits queued it b.rest port e (none-next queued new a) low (f.merged.gives.holds b.rest b.may).inside (subst (IsStopped queued) e s))
+reads-of cap count bytes left queued new it before mid End e f w low s a = inl (none-left it.reader.held left (subst (λ k. EndsWith k (next_bytes (held_in k it.reader.held) left)) e w))
+reads-of cap count bytes left queued new it before mid Bad e f w low s a =
+    go left refl (subst (λ k. IsFilled cap count (Some bytes) (next_bytes k left) queued it before mid) (ap (λ k. held_in k it.reader.held) e) f)
+  where
+    go : (l : Option (List ℕ)) → left ≡ l → IsFilled cap count (Some bytes) (next_bytes [] left) queued it before mid → ReadsEnough cap (Some bytes) left
+    go None is h = absurd (subst (λ l. Consumes (Some bytes) (next_bytes [] l) h.merged.gives.taken) is h.merged.gives.took)
+    go (Some []) is h = inl is
+    go (Some (x ∷ xs)) is h =
+        subst (λ l. ReadsEnough cap (Some bytes) l) (sym is)
+        (inr (decides cap count bytes x xs queued new it before mid (subst (λ l. IsFilled cap count (Some bytes) (next_bytes [] l) queued it before mid) is h) e low s a))
+
+pub reads-end : (cap count : ℕ) (start left : Option (List ℕ)) (queued new : Queued) (it : Place) (before mid : Option (List ℕ)) → IsFilled cap count start (unread it left) queued it before mid → EndsAt start it.ahead (unread it left) → queued.turn < 4 → IsStopped queued it.ahead
+    → IsAdmitted queued new None → ReadsEnough cap start left
+reads-end cap count None left queued new it before mid f e low s a = tt
+reads-end cap count (Some bytes) left queued new it before mid f e low s a = reads-of cap count bytes left queued new it before mid it.ahead refl f e low s a

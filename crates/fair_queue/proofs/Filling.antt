@@ -1,27 +1,29 @@
 -- Filling the queues, one line after another.
 use Rattle.std.proofs.Common.{◌≡◌, ℕ, ◌+◌, ◌*◌, ◌-◌, ◌<◌, ◌≤◌, true, false, cond, Option, Some, None, List, [], ◌∷◌, drop, length, refl, sym, ap, ◌∙◌, subst, arith}
+use Rattle.std.specs.Io.KnownBytes.{Consumes}
+use Rattle.std.proofs.KnownBytes.{Consumes-nil}
+use Rattle.ddr_io.specs.Line.{next_bytes}
 use Rattle.fair_queue.specs.Arrivals.{Arrival, Input, with_line, input_from}
 use Rattle.fair_queue.specs.Machine.{Queued, has_room, pushed, filled, in_queues}
-use Rattle.fair_queue.specs.Reading.{Place, AreKept, Continues, EndsAt, EndsWith, Fills, IsSame, IsSteady, IsStopped, IsKnown, left_in, left_behind, port_in, waiting, with_ahead}
+use Rattle.fair_queue.specs.Reading.{Place, Advances, AreKept, Continues, ContinuesFrom, EndsAt, EndsWith, Fills, FillsFrom, IsSame, IsSteady, IsStopped, IsKnown, left_in, left_behind, held_in, port_in, unread, waiting, with_ahead}
 use Rattle.fair_queue.specs.declared.port_lines.Ahead.{Ahead}
 use Rattle.fair_queue.specs.declared.port_lines.Ahead.TheVariants.{Unknown, Waits, Bad, End}
 use Rattle.ddr_text.specs.Opening.{parts_of}
+use Rattle.fair_queue.proofs.Advancing.{advances, advances-none, advances-so, no-end-waits}
 use Rattle.fair_queue.proofs.Rounds.{pushed-four, pushed-more}
 
 pub continues-first : (queued : Queued) (it : Place) (before : Option (List ℕ)) → Continues queued it before queued it before
-continues-first queued it None = tt
-continues-first queued it (Some bytes) = (refl, refl)
+continues-first queued it before = advances-none it.ahead before (ContinuesFrom queued it queued it) (λ bytes. (refl, refl))
 
 pub continues-look : (old : Queued) (first : Place) (start : Option (List ℕ)) (queued : Queued) (it later : Place) (before after : Option (List ℕ)) → Continues old first start queued it before → IsSame it later before after → Continues old first start queued later after
-continues-look old first None queued it later before after c s = tt
-continues-look old first (Some bytes) queued it later None after c s = absurd c
-continues-look old first (Some bytes) queued it later (Some rest) None c s = absurd s
-continues-look old first (Some bytes) queued it later (Some rest) (Some more) c s = (c.0 ∙ ap (λ (i : Input). filled queued i.lines) s, c.1 ∙ ap (λ (i : Input). i.is_bad) s)
+continues-look old first start queued it later before after c s =
+    advances first.ahead it.ahead later.ahead start before after (ContinuesFrom old first queued it) (λ bytes rest. left_in it bytes ≡ left_in later rest) (ContinuesFrom old first queued later) c s
+    (λ bytes mid rest p q. (p.0 ∙ ap (λ (i : Input). filled queued i.lines) q, p.1 ∙ ap (λ (i : Input). i.is_bad) q))
 
 pub ends-look : (old : Queued) (first : Place) (start : Option (List ℕ)) (queued : Queued) (it later : Place) (before after : Option (List ℕ)) → Continues old first start queued it before → EndsAt start it.ahead before
     → (EndsAt before it.ahead before → EndsAt before later.ahead after) → EndsAt start later.ahead after
 ends-look old first None queued it later before after c e f = tt
-ends-look old first (Some bytes) queued it later None after c e f = absurd c
+ends-look old first (Some bytes) queued it later None after c e f = absurd c.took
 ends-look old first (Some bytes) queued it later (Some rest) after c e f = f e
 
 pub ends-taken : (start : Option (List ℕ)) (it later : Place) (left : Option (List ℕ)) → later ≡ with_ahead it Unknown → EndsAt start later.ahead left
@@ -38,12 +40,22 @@ port-waits End port e = cc
 left-waits : (it : Place) (rest : List ℕ) (port : ℕ) → it.ahead ≡ Waits port → left_in it rest ≡ with_line (Some (record { port = port; rest = drop 2 it.reader.line })) (input_from it.number (parts_of rest))
 left-waits it rest port e = ap (λ a. left_behind a it.reader.line (input_from it.number (parts_of rest))) e
 
-pub continues-push : (old : Queued) (first : Place) (start : Option (List ℕ)) (queued : Queued) (it : Place) (now : Option (List ℕ)) (port : ℕ) (text : List ℕ) (new : Queued) (later : Place) → Continues old first start queued it now → Some port ≡ port_in it.ahead → has_room queued port ≡ true
-    → text ≡ drop 2 it.reader.line → new ≡ pushed queued (record { port = port; rest = text }) → later ≡ with_ahead it Unknown → Continues old first start new later now
-continues-push old first None queued it now port text new later c p r t n l = tt
-continues-push old first (Some bytes) queued it None port text new later c p r t n l = absurd c
-continues-push old first (Some bytes) queued it (Some rest) port text new later c p r t n l =
-    let left = left-waits it rest port (port-waits it.ahead port p) in
+-- a line that is taken changes nothing of what is read
+unread-taken : (it later : Place) (port : ℕ) (left : Option (List ℕ)) → it.ahead ≡ Waits port → later ≡ with_ahead it Unknown → unread later left ≡ unread it left
+unread-taken it later port left w l = ap (λ (k : Place). unread k left) l ∙ sym (ap (λ a. next_bytes (held_in a it.reader.held) left) w)
+
+takes-none : (it later : Place) (port : ℕ) (left : Option (List ℕ)) → it.ahead ≡ Waits port → later ≡ with_ahead it Unknown → Advances it.ahead later.ahead (unread it left) (unread later left) (λ bytes rest. bytes ≡ rest)
+takes-none it later port left w l = record {
+  taken = [];
+  took = subst (λ n. Consumes (unread it left) n []) (sym (unread-taken it later port left w l)) (Consumes-nil (unread it left));
+  over = λ e. absurd (no-end-waits it.ahead port w e);
+  holds = λ more may. refl;
+}
+
+continues-taken : (old : Queued) (first : Place) (queued : Queued) (it : Place) (port : ℕ) (text : List ℕ) (new : Queued) (later : Place) (bytes rest : List ℕ) → ContinuesFrom old first queued it bytes rest → it.ahead ≡ Waits port → has_room queued port ≡ true
+    → text ≡ drop 2 it.reader.line → new ≡ pushed queued (record { port = port; rest = text }) → later ≡ with_ahead it Unknown → ContinuesFrom old first new later bytes rest
+continues-taken old first queued it port text new later bytes rest c w r t n l =
+    let left = left-waits it rest port w in
     let behind : Input = input_from it.number (parts_of rest) in
     let is_left : behind ≡ left_in later rest = ap (λ (k : Place). left_in k rest) (sym l) in (
       c.0 ∙ ap (λ (i : Input). filled queued i.lines) left
@@ -53,6 +65,13 @@ continues-push old first (Some bytes) queued it (Some rest) port text new later 
           ∙ ap (λ (i : Input). filled new i.lines) is_left,
       c.1 ∙ ap (λ (i : Input). i.is_bad) left ∙ ap (λ (i : Input). i.is_bad) is_left,
     )
+
+pub continues-push : (old : Queued) (first : Place) (start : Option (List ℕ)) (queued : Queued) (it : Place) (left : Option (List ℕ)) (port : ℕ) (text : List ℕ) (new : Queued) (later : Place) → Continues old first start queued it (unread it left) → Some port ≡ port_in it.ahead → has_room queued port ≡ true
+    → text ≡ drop 2 it.reader.line → new ≡ pushed queued (record { port = port; rest = text }) → later ≡ with_ahead it Unknown → Continues old first start new later (unread later left)
+continues-push old first start queued it left port text new later c p r t n l =
+    let w = port-waits it.ahead port p in
+    advances first.ahead it.ahead later.ahead start (unread it left) (unread later left) (ContinuesFrom old first queued it) (λ bytes rest. bytes ≡ rest) (ContinuesFrom old first new later) c (takes-none it later port left w l)
+    (λ bytes mid rest held same. continues-taken old first queued it port text new later bytes rest (subst (λ k. ContinuesFrom old first queued it bytes k) same held) w r t n l)
 
 -- filling stops
 stopped-here : (queued : Queued) (it : Place) (rest : List ℕ) (ahead : Ahead) → it.ahead ≡ ahead → IsStopped queued ahead → filled queued (left_in it rest).lines ≡ record { queued = queued; left = (left_in it rest).lines }
@@ -71,9 +90,8 @@ stopped-here queued it rest End e s =
     ap (λ (i : Input). filled queued i.lines) left ∙ ap (λ (i : Input). record { queued = queued; left = i.lines }) (sym left)
 
 pub fills-stopped : (old : Queued) (first : Place) (start : Option (List ℕ)) (queued : Queued) (it : Place) (now : Option (List ℕ)) → Continues old first start queued it now → IsStopped queued it.ahead → Fills old first start queued it now
-fills-stopped old first None queued it now c s = tt
-fills-stopped old first (Some bytes) queued it None c s = absurd c
-fills-stopped old first (Some bytes) queued it (Some rest) c s = (c.0 ∙ stopped-here queued it rest it.ahead refl s, c.1)
+fills-stopped old first start queued it now c s =
+    advances-so first.ahead it.ahead start now (ContinuesFrom old first queued it) (FillsFrom old first queued it) c (λ bytes rest may held. (held.0 ∙ stopped-here queued it rest it.ahead refl s, held.1))
 
 pub stops-full : (queued : Queued) (ahead : Ahead) (port : ℕ) → Some port ≡ port_in ahead → has_room queued port ≡ false → IsStopped queued ahead
 stops-full queued ahead port p r = subst (IsStopped queued) (sym (port-waits ahead port p)) r

@@ -1,5 +1,6 @@
 pub mod Pieces
 pub mod Searching
+pub mod Advancing
 pub mod Parts
 pub mod Rounds
 pub mod Filling

@@ -6,14 +6,18 @@ use Rattle.ddr_io.specs.Line.{next_bytes}
 use Rattle.ddr_io.specs.Sink.{AppendsPrefix}
 use Rattle.ddr_io.specs.declared.status.Status.{Status}
 use Rattle.ddr_io.specs.declared.status.Status.TheVariants as status
-use Rattle.ddr_text.specs.Opening.{IsOpening}
+use Rattle.ddr_text.specs.Opening.{Accepts, IsOpening, OpensAgain}
 use Rattle.ddr_text.specs.declared.opening.Opening.{Opening}
 use Rattle.ddr_text.specs.declared.opening.Opening.TheVariants.{Accepted, Refused, Failed}
 use Rattle.speed_bin.specs.declared.header.Header.{Header}
 use Rattle.ddr_text.specs.Outcome.{Outcome, RefusesLine, refused_opening}
-use Rattle.fair_queue.specs.Answering.{BehindAnswers, JobBeginsToMerge, JobMerges, MergeAnswers, ReadsBehind, IsMerged, IsWhole, merged, merged_in}
+use Rattle.fair_queue.specs.Answering.{BehindAnswers, JobBeginsToMerge, JobMerges, MergeAnswers, ReadsBehind, ReadsInput, IsMerged, merged, merged_in}
 use Rattle.fair_queue.specs.Merged.{merged_behind}
-use Rattle.fair_queue.specs.Merging.{Merges, BeginsToMerge, ReadsToEnd}
+use Rattle.fair_queue.specs.Merging.{Merges, BeginsToMerge, ReadsEnough, StopCause, Tells}
+use Rattle.ddr_io.specs.Faults.{Rose}
+use Rattle.ddr_text.specs.Stop.{ReadCause, WriteCause, status_of}
+use Rattle.ddr_text.specs.declared.stop.Stop.{Stop}
+use Rattle.ddr_text.specs.declared.stop.Stop.TheVariants.{ReadFault, WriteFault, OutOfMemory}
 use Rattle.ddr_text.proofs.Prefixes.{prefix-behind, prefix-longer, no-prefix}
 
 -- ---- The opening
@@ -35,58 +39,57 @@ refused-read opening reason is e = let f : opening ≡ Failed = cc in let k : Re
 -- ---- Behind the opening
 
 pub job-merges : (cap : ℕ) (opening : List ℕ) (start before mid after : Option (List ℕ)) → Appends before mid opening → Merges cap start mid after → JobMerges cap opening start before after
-job-merges cap opening None before mid after v (text, is, w) = (opening ++ text, Appends-trans before mid after opening text v w)
-job-merges cap opening (Some bytes) before mid after v (text, is, w) =
-    subst (λ l. Appends before after (opening ++ l)) is (Appends-trans before mid after opening text v w)
+job-merges cap opening start before mid after v (bytes, tells, w) = (bytes, tells, Appends-trans before mid after opening (merged_behind cap bytes) v w)
 
 pub job-cut : (cap : ℕ) (opening : List ℕ) (start before mid after : Option (List ℕ)) → Appends before mid opening → BeginsToMerge cap start mid after → JobBeginsToMerge cap opening start before after
-job-cut cap opening None before mid after v (text, is, w) = (opening ++ text, prefix-behind before mid after opening text v w)
-job-cut cap opening (Some bytes) before mid after v (text, is, w) =
-    subst (λ l. AppendsPrefix before after (opening ++ l)) is (prefix-behind before mid after opening text v w)
+job-cut cap opening start before mid after v (bytes, tells, w) = (bytes, tells, prefix-behind before mid after opening (merged_behind cap bytes) v w)
+
+-- the bytes that a source tells, or none
+some-told : (start : Option (List ℕ)) → (bytes : List ℕ) × Tells start bytes
+some-told None = ([], tt)
+some-told (Some bytes) = (bytes, refl)
 
 -- the opening itself was cut off
 pub opening-cut : (cap : ℕ) (opening : List ℕ) (start before after : Option (List ℕ)) → AppendsPrefix before after opening → JobBeginsToMerge cap opening start before after
-opening-cut cap opening None before after w = (opening, w)
-opening-cut cap opening (Some bytes) before after w = prefix-longer before after opening (merged_behind cap bytes) w
+opening-cut cap opening start before after w =
+    let told = some-told start in
+    (told.0, told.1, prefix-longer before after opening (merged_behind cap told.0) w)
 
 -- nothing was written
 pub nothing-cut : (cap : ℕ) (opening : List ℕ) (start before : Option (List ℕ)) → JobBeginsToMerge cap opening start before before
-nothing-cut cap opening None before = (opening, no-prefix before opening)
-nothing-cut cap opening (Some bytes) before = no-prefix before (opening ++ merged_behind cap bytes)
+nothing-cut cap opening start before =
+    let told = some-told start in
+    (told.0, told.1, no-prefix before (opening ++ merged_behind cap told.0))
 
 -- ---- The whole
 
-whole-answer : (cap : ℕ) (h : Header) (opening : List ℕ) (old next new before after : Option (List ℕ)) → IsOpening old next (Accepted h opening) → JobMerges cap opening next before after → ReadsToEnd next new → MergeAnswers cap status.Ok old new before after
-whole-answer cap h opening None None new before after o (text, w) r = ((record { text = text; status = status.Ok }, inl refl, refl, w), tt)
-whole-answer cap h opening None (Some bytes) new before after o w r = ((record { text = opening ++ merged_behind cap bytes; status = status.Ok }, inl refl, refl, w), tt)
-whole-answer cap h opening (Some bytes) None new before after (rest, is, next_is) w r = cc
-whole-answer cap h opening (Some bytes) (Some next) new before after (rest, is, next_is) w r =
-    let same : next ≡ rest = cc in (
-      (
-        merged cap bytes,
-        refl,
-        sym (ap (λ o. (merged_in cap o).status) is),
-        subst (λ (k : Outcome). Appends before after k.text) (sym (ap (merged_in cap) is)) (subst (λ l. Appends before after (opening ++ merged_behind cap l)) same w),
-      ),
-      subst (λ o. ReadsBehind o new) (sym is) (subst (λ l. ReadsToEnd (Some l) new) same r),
-    )
+-- what is written behind an opening is the merge of the source's bytes, or of some bytes, where it does not tell them
+is-merged : (cap : ℕ) (h : Header) (opening : List ℕ) (old next : Option (List ℕ)) (bytes : List ℕ) → IsOpening old next (Accepted h opening) → OpensAgain (Accepted h opening) → Tells next bytes
+    → IsMerged cap old (record { text = opening ++ merged_behind cap bytes; status = status.Ok })
+is-merged cap h opening None next bytes o again tells = inl (opening ++ bytes, ap (merged_in cap) (again bytes))
+is-merged cap h opening (Some all) next bytes (rest, is, next_is) again tells =
+    let same : rest ≡ bytes = subst (λ n. Tells n bytes) next_is tells in
+    ap (merged_in cap) is ∙ ap (λ l. merged_in cap (Accepts h opening l)) same
 
-cut-answer : (cap : ℕ) (h : Header) (opening : List ℕ) (old next before after : Option (List ℕ)) → IsOpening old next (Accepted h opening) → JobBeginsToMerge cap opening next before after → (it : Outcome) × IsMerged cap old it × AppendsPrefix before after it.text
-cut-answer cap h opening None None before after o (text, w) = (record { text = text; status = status.Ok }, inl refl, w)
-cut-answer cap h opening None (Some bytes) before after o w = (record { text = opening ++ merged_behind cap bytes; status = status.Ok }, inl refl, w)
-cut-answer cap h opening (Some bytes) None before after (rest, is, next_is) w = cc
-cut-answer cap h opening (Some bytes) (Some next) before after (rest, is, next_is) w =
-    let same : next ≡ rest = cc in
-    (merged cap bytes, refl, subst (λ (k : Outcome). AppendsPrefix before after k.text) (sym (ap (merged_in cap) is)) (subst (λ l. AppendsPrefix before after (opening ++ merged_behind cap l)) same w))
+reads-all : (cap : ℕ) (h : Header) (opening : List ℕ) (old next new : Option (List ℕ)) → IsOpening old next (Accepted h opening) → ReadsEnough cap next new → ReadsInput cap old new
+reads-all cap h opening None next new o r = tt
+reads-all cap h opening (Some all) next new (rest, is, next_is) r = subst (λ o. ReadsBehind cap o new) (sym is) (subst (λ n. ReadsEnough cap n new) next_is r)
 
-pub accepted-answer : (cap : ℕ) (h : Header) (opening : List ℕ) (answer : Status) (old next new before after : Option (List ℕ)) → IsOpening old next (Accepted h opening) → BehindAnswers cap opening next answer new before after → MergeAnswers cap answer old new before after
-accepted-answer cap h opening status.Ok old next new before after o b = whole-answer cap h opening old next new before after o b.0 b.1
-accepted-answer cap h opening status.ReadFault old next new before after o b = cut-answer cap h opening old next before after o b
-accepted-answer cap h opening status.WriteFault old next new before after o b = cut-answer cap h opening old next before after o b
-accepted-answer cap h opening status.OutOfMemory old next new before after o b = cut-answer cap h opening old next before after o b
-accepted-answer cap h opening status.Refused old next new before after o b = absurd b
-accepted-answer cap h opening status.Broken old next new before after o b = absurd b
-accepted-answer cap h opening status.Usage old next new before after o b = absurd b
+whole-answer : (cap : ℕ) (h : Header) (opening : List ℕ) (old next new before after : Option (List ℕ)) → IsOpening old next (Accepted h opening) → OpensAgain (Accepted h opening) → JobMerges cap opening next before after → ReadsEnough cap next new → MergeAnswers cap status.Ok old new before after
+whole-answer cap h opening old next new before after o again (bytes, tells, w) r =
+    ((record { text = opening ++ merged_behind cap bytes; status = status.Ok }, is-merged cap h opening old next bytes o again tells, refl, w), reads-all cap h opening old next new o r)
+
+cut-answer : (cap : ℕ) (h : Header) (opening : List ℕ) (old next before after : Option (List ℕ)) → IsOpening old next (Accepted h opening) → OpensAgain (Accepted h opening) → JobBeginsToMerge cap opening next before after → (it : Outcome) × IsMerged cap old it × AppendsPrefix before after it.text
+cut-answer cap h opening old next before after o again (bytes, tells, w) = (record { text = opening ++ merged_behind cap bytes; status = status.Ok }, is-merged cap h opening old next bytes o again tells, w)
+
+pub accepted-answer : (cap : ℕ) (h : Header) (opening : List ℕ) (answer : Status) (old next new before after : Option (List ℕ)) → IsOpening old next (Accepted h opening) → OpensAgain (Accepted h opening) → BehindAnswers cap opening next answer new before after → MergeAnswers cap answer old new before after
+accepted-answer cap h opening status.Ok old next new before after o again b = whole-answer cap h opening old next new before after o again b.0 b.1
+accepted-answer cap h opening status.ReadFault old next new before after o again b = cut-answer cap h opening old next before after o again b
+accepted-answer cap h opening status.WriteFault old next new before after o again b = cut-answer cap h opening old next before after o again b
+accepted-answer cap h opening status.OutOfMemory old next new before after o again b = cut-answer cap h opening old next before after o again b
+accepted-answer cap h opening status.Refused old next new before after o again b = absurd b
+accepted-answer cap h opening status.Broken old next new before after o again b = absurd b
+accepted-answer cap h opening status.Usage old next new before after o again b = absurd b
 
 -- what is written of a job whose opening is refused
 refused-outcome : (cap reason : ℕ) (old next : Option (List ℕ)) → IsOpening old next (Refused reason) → IsMerged cap old (refused_opening reason)
@@ -104,10 +107,32 @@ refused-answer cap reason status.Usage old next new before after o w = absurd w
 
 -- nothing was written
 pub nothing-answer : (cap : ℕ) (old before : Option (List ℕ)) → (it : Outcome) × IsMerged cap old it × AppendsPrefix before before it.text
-nothing-answer cap None before = (record { text = []; status = status.Ok }, inl refl, no-prefix before [])
+nothing-answer cap None before = (merged cap [], inl ([], refl), no-prefix before (merged cap []).text)
 nothing-answer cap (Some bytes) before = (merged cap bytes, refl, no-prefix before (merged cap bytes).text)
 
--- a merge that was written whole met no fault
-pub whole-no_fault : (answer : Status) → IsWhole answer → answer ≡ status.WriteFault → ⊥
-whole-no_fault answer (inl is) e = let f : status.Ok ≡ status.WriteFault = sym is ∙ e in cc
-whole-no_fault answer (inr is) e = let f : status.Refused ≡ status.WriteFault = sym is ∙ e in cc
+-- ---- The counts of faults
+
+pub read-cause : (stop : Stop) (before read read_after wrote wrote_after : ℕ) → read ≡ before → wrote_after ≡ wrote → ReadCause read read_after stop → StopCause before read_after wrote wrote_after stop
+read-cause ReadFault before read read_after wrote wrote_after is same rose = (subst (λ n. Rose n read_after) is rose, same)
+read-cause WriteFault before read read_after wrote wrote_after is same rose = absurd rose
+read-cause OutOfMemory before read read_after wrote wrote_after is same kept = (kept ∙ is, same)
+
+pub write-cause : (stop : Stop) (before wrote wrote_after read read_after : ℕ) → wrote ≡ before → read_after ≡ read → WriteCause wrote wrote_after stop → StopCause read read_after before wrote_after stop
+write-cause ReadFault before wrote wrote_after read read_after is same rose = absurd rose
+write-cause WriteFault before wrote wrote_after read read_after is same rose = (subst (λ n. Rose n wrote_after) is rose, same)
+write-cause OutOfMemory before wrote wrote_after read read_after is same kept = (same, kept ∙ is)
+
+pub stop-reads-kept : (stop : Stop) (answer : Status) (read read_after wrote wrote_after : ℕ) → answer ≡ status_of stop → StopCause read read_after wrote wrote_after stop → (answer ≡ status.ReadFault → ⊥) → read_after ≡ read
+stop-reads-kept ReadFault answer read read_after wrote wrote_after is cause other = absurd (other is)
+stop-reads-kept WriteFault answer read read_after wrote wrote_after is cause other = cause.1
+stop-reads-kept OutOfMemory answer read read_after wrote wrote_after is cause other = cause.0
+
+pub stop-writes-kept : (stop : Stop) (answer : Status) (read read_after wrote wrote_after : ℕ) → answer ≡ status_of stop → StopCause read read_after wrote wrote_after stop → (answer ≡ status.WriteFault → ⊥) → wrote_after ≡ wrote
+stop-writes-kept ReadFault answer read read_after wrote wrote_after is cause other = cause.1
+stop-writes-kept WriteFault answer read read_after wrote wrote_after is cause other = absurd (other is)
+stop-writes-kept OutOfMemory answer read read_after wrote wrote_after is cause other = cause.1
+
+pub write-stop-kept : (stop : Stop) (answer : Status) (wrote wrote_after : ℕ) → answer ≡ status_of stop → WriteCause wrote wrote_after stop → (answer ≡ status.WriteFault → ⊥) → wrote_after ≡ wrote
+write-stop-kept ReadFault answer wrote wrote_after is cause other = absurd cause
+write-stop-kept WriteFault answer wrote wrote_after is cause other = absurd (other is)
+write-stop-kept OutOfMemory answer wrote wrote_after is cause other = cause

@@ -2,32 +2,37 @@
 use Rattle.std.proofs.Common.{◌≡◌, ℕ, suc, ◌+◌, ◌-◌, ◌%◌, ◌<◌, ◌≤◌, Bool, true, false, Option, Some, None, List, [], ◌∷◌, ◌++◌, length, refl, sym, ap, ◌∙◌, subst, arith, append_assoc}
 use Rattle.std.specs.List.{flat_map}
 use Rattle.std.specs.Io.KnownBytes.{Appends}
-use Rattle.std.proofs.KnownBytes.{Appends-trans}
+use Rattle.std.proofs.KnownBytes.{Appends-trans, Consumes-nil}
 use Rattle.ddr_io.specs.Sink.{AppendsPrefix}
 use Rattle.ddr_text.specs.Opening.{with_feed, parts_of}
 use Rattle.fair_queue.specs.Arrivals.{AreInside, Input, input_of}
 use Rattle.fair_queue.specs.Admitting.{AdmitsIf, IsAdmitted}
 use Rattle.fair_queue.specs.Machine.{Queued, Filled, empty, queue_of, filled, next_port, first_rest, without_first, in_queues}
 use Rattle.fair_queue.specs.Merged.{barriers, one_more, is_request, merged_behind, text_from}
-use Rattle.fair_queue.specs.Merging.{BeginsToMerge, GivesIf, HasMerged, IsSettled}
-use Rattle.fair_queue.specs.Reading.{Place, AreKept, EndsAt, Fills, IsSteady, left_in, waiting}
+use Rattle.fair_queue.specs.Merging.{BeginsToMerge, GivesAll, GivesFrom, HasMerged, IsSettled}
+use Rattle.fair_queue.specs.Reading.{Place, AreKept, EndsAt, Fills, FillsFrom, IsSteady, MayFollow, left_in, waiting}
 use Rattle.fair_queue.specs.declared.port_lines.Ahead.TheVariants.{Unknown}
 use Rattle.ddr_text.proofs.Prefixes.{prefix-behind, prefix-longer, prefix-whole}
+use Rattle.fair_queue.proofs.Advancing.{advances, advances-so, behind, no-end-unknown}
 use Rattle.fair_queue.proofs.Pieces.{appends-none}
 use Rattle.fair_queue.proofs.Searching.{found-full}
 use Rattle.fair_queue.proofs.Rounds.{again, filled-inside, input-inside, port-below, text-filled, text-next, without-four, without-less}
 
 -- ---- At first
 
-gives-first : (cap : ℕ) (start : Option (List ℕ)) (queued : Queued) (it : Place) → queued ≡ empty → it ≡ record { reader = it.reader; number = 1; ahead = Unknown } → GivesIf cap 0 start start queued it []
-gives-first cap None queued it h l = tt
-gives-first cap (Some bytes) queued it h l =
-    let left : left_in it bytes ≡ input_of bytes = ap (λ (k : Place). left_in k bytes) l in
-    record {
-      whole = ap (λ (k : Queued). text_from cap 0 k (input_of bytes)) (sym h) ∙ ap (text_from cap 0 queued) (sym left);
-      inside = subst (λ (i : Input). AreInside i.lines) (sym left) (input-inside 1 (parts_of bytes));
-      bad = ap (λ (i : Input). i.is_bad) (sym left);
-    }
+gives-first : (cap : ℕ) (start : Option (List ℕ)) (queued : Queued) (it : Place) → queued ≡ empty → it ≡ record { reader = it.reader; number = 1; ahead = Unknown } → GivesAll cap 0 start start queued it []
+gives-first cap start queued it h l = record {
+  taken = [];
+  took = Consumes-nil start;
+  over = λ e. absurd (no-end-unknown Unknown refl e);
+  holds = λ more may.
+      let left : left_in it more ≡ input_of more = ap (λ (k : Place). left_in k more) l in
+      record {
+        whole = ap (λ (k : Queued). text_from cap 0 k (input_of more)) (sym h) ∙ ap (text_from cap 0 queued) (sym left);
+        inside = subst (λ (i : Input). AreInside i.lines) (sym left) (input-inside 1 (parts_of more));
+        bad = ap (λ (i : Input). i.is_bad) (sym left);
+      };
+}
 
 pub merging-first : (cap : ℕ) (start : Option (List ℕ)) (queued : Queued) (it : Place) (before : Option (List ℕ)) → queued ≡ empty → it ≡ record { reader = it.reader; number = 1; ahead = Unknown } → HasMerged cap 0 start start queued it before before
 merging-first cap start queued it before h l = record { text = []; wrote = appends-none before; gives = gives-first cap start queued it h l }
@@ -46,40 +51,33 @@ ends-first (Some bytes) it l = subst (λ (k : Place). EndsAt (Some bytes) k.ahea
 
 -- ---- The queues are filled
 
--- what is left fills the queues no further, where the bytes are known
-abbrev pub AreFull : Option (List ℕ) → Option (List ℕ) → Queued → Place → Type 0
-AreFull None now queued it = Unit {0}
-AreFull (Some bytes) None queued it = ⊥
-AreFull (Some bytes) (Some rest) queued it = filled queued (left_in it rest).lines ≡ record { queued = queued; left = (left_in it rest).lines }
+-- what is left fills the queues no further
+abbrev pub AreFull : Option (List ℕ) → Queued → Place → Type 0
+AreFull now queued it = (more : List ℕ) → MayFollow it.ahead now more → filled queued (left_in it more).lines ≡ record { queued = queued; left = (left_in it more).lines }
 
 pub record IsFilled (cap count : ℕ) (start now : Option (List ℕ)) (queued : Queued) (it : Place) (before after : Option (List ℕ)) : Type 0 where
   pub merged : HasMerged cap count start now queued it before after
-  pub full : AreFull start now queued it
+  pub full : AreFull now queued it
 
-gives-filled : (cap count : ℕ) (start now later : Option (List ℕ)) (queued new : Queued) (it that : Place) (text : List ℕ) → GivesIf cap count start now queued it text → length queued.queues ≡ 4 → Fills queued it now new that later → GivesIf cap count start later new that text
-gives-filled cap count None now later queued new it that text m four f = tt
-gives-filled cap count (Some bytes) None later queued new it that text m four f = absurd m
-gives-filled cap count (Some bytes) (Some rest) None queued new it that text m four f = absurd f
-gives-filled cap count (Some bytes) (Some rest) (Some more) queued new it that text m four f =
-    let old : Input = left_in it rest in
-    record {
-      whole = m.whole ∙ ap (λ l. text ++ l) (text-filled cap count queued old new (left_in that more) four m.inside f.0 f.1);
-      inside = subst (λ (k : Filled). AreInside k.left) f.0 (filled-inside queued old.lines m.inside);
-      bad = m.bad ∙ f.1;
-    }
+gives-filled : (cap count : ℕ) (start now later : Option (List ℕ)) (queued new : Queued) (it that : Place) (text : List ℕ) → GivesAll cap count start now queued it text → length queued.queues ≡ 4 → Fills queued it now new that later → GivesAll cap count start later new that text
+gives-filled cap count start now later queued new it that text m four f =
+    advances Unknown it.ahead that.ahead start now later (GivesFrom cap count queued it text) (FillsFrom queued it new that) (GivesFrom cap count new that text) m f
+    (λ bytes rest more g h. record {
+      whole = g.whole ∙ ap (λ l. text ++ l) (text-filled cap count queued (left_in it rest) new (left_in that more) four g.inside h.0 h.1);
+      inside = subst (λ (k : Filled). AreInside k.left) h.0 (filled-inside queued (left_in it rest).lines g.inside);
+      bad = g.bad ∙ h.1;
+    })
 
-full-filled : (cap count : ℕ) (start now later : Option (List ℕ)) (queued new : Queued) (it that : Place) (text : List ℕ) → GivesIf cap count start now queued it text → Fills queued it now new that later → AreFull start later new that
-full-filled cap count None now later queued new it that text m f = tt
-full-filled cap count (Some bytes) None later queued new it that text m f = absurd m
-full-filled cap count (Some bytes) (Some rest) None queued new it that text m f = absurd f
-full-filled cap count (Some bytes) (Some rest) (Some more) queued new it that text m f =
-    ap (λ (k : Filled). filled k.queued k.left) (sym f.0) ∙ again queued (left_in it rest).lines ∙ f.0
+full-filled : (now later : Option (List ℕ)) (queued new : Queued) (it that : Place) → Fills queued it now new that later → AreFull later new that
+full-filled now later queued new it that f = λ more may.
+    let h = f.holds more may in
+    ap (λ (k : Filled). filled k.queued k.left) (sym h.0) ∙ again queued (left_in it (f.taken ++ more)).lines ∙ h.0
 
 pub merging-filled : (cap count : ℕ) (start now later : Option (List ℕ)) (queued new : Queued) (it that : Place) (before after : Option (List ℕ)) → HasMerged cap count start now queued it before after → length queued.queues ≡ 4 → Fills queued it now new that later
     → IsFilled cap count start later new that before after
 merging-filled cap count start now later queued new it that before after m four f = record {
   merged = record { text = m.text; wrote = m.wrote; gives = gives-filled cap count start now later queued new it that m.text m.gives four f };
-  full = full-filled cap count start now later queued new it that m.text m.gives f;
+  full = full-filled now later queued new it that f;
 }
 
 pub settled-filled : (count : ℕ) (queued new : Queued) (it that : Place) → IsSettled count queued it → AreKept queued new → IsSteady queued it new that → that.number ≤ 1048577 → IsSettled count new that
@@ -87,9 +85,9 @@ settled-filled count queued new it that s k e few =
     let less = s.few in let turn = k.turn in let low = s.turn in
     record { four = k.four; turn = omega (arith, turn, low); few = omega (arith, less, e); most = few }
 
-ends-of : (cap count : ℕ) (start now later : Option (List ℕ)) (queued : Queued) (it that : Place) (text : List ℕ) → GivesIf cap count start now queued it text → EndsAt start it.ahead now → (EndsAt now it.ahead now → EndsAt now that.ahead later) → EndsAt start that.ahead later
+ends-of : (cap count : ℕ) (start now later : Option (List ℕ)) (queued : Queued) (it that : Place) (text : List ℕ) → GivesAll cap count start now queued it text → EndsAt start it.ahead now → (EndsAt now it.ahead now → EndsAt now that.ahead later) → EndsAt start that.ahead later
 ends-of cap count None now later queued it that text m e f = tt
-ends-of cap count (Some bytes) None later queued it that text m e f = absurd m
+ends-of cap count (Some bytes) None later queued it that text m e f = absurd m.took
 ends-of cap count (Some bytes) (Some rest) later queued it that text m e f = f e
 
 pub ends-filled : (cap count : ℕ) (start now later : Option (List ℕ)) (queued : Queued) (it that : Place) (before after : Option (List ℕ)) → HasMerged cap count start now queued it before after → EndsAt start it.ahead now
@@ -111,24 +109,23 @@ taken old new rest a = go (next_port old) refl a
     go None e k = let f : Some rest ≡ None = k.1 in cc
     go (Some port) e k = record { port = port; next = e; new_is = k.0; rest_is = let f : Some rest ≡ Some (first_rest (queue_of old port)) = k.1 in cc }
 
-gives-next : (cap count number : ℕ) (start now : Option (List ℕ)) (queued new : Queued) (it : Place) (text rest : List ℕ) → GivesIf cap count start now queued it text → AreFull start now queued it → length queued.queues ≡ 4 → queued.turn < 4 → IsAdmitted queued new (Some rest)
-    → number ≡ one_more (is_request rest) count → GivesIf cap number start now new it (text ++ flat_map with_feed (barriers cap count rest ++ rest ∷ []))
-gives-next cap count number None now queued new it text rest m full four low a n = tt
-gives-next cap count number (Some bytes) None queued new it text rest m full four low a n = absurd m
-gives-next cap count number (Some bytes) (Some left) queued new it text rest m full four low a n =
+gives-next : (cap count number : ℕ) (start now : Option (List ℕ)) (queued new : Queued) (it : Place) (text rest : List ℕ) → GivesAll cap count start now queued it text → AreFull now queued it → length queued.queues ≡ 4 → queued.turn < 4 → IsAdmitted queued new (Some rest)
+    → number ≡ one_more (is_request rest) count → GivesAll cap number start now new it (text ++ flat_map with_feed (barriers cap count rest ++ rest ∷ []))
+gives-next cap count number start now queued new it text rest m full four low a n =
     let t = taken queued new rest a in
     let piece : List ℕ = flat_map with_feed (barriers cap count rest ++ rest ∷ []) in
-    record {
+    advances-so Unknown it.ahead start now (GivesFrom cap count queued it text) (GivesFrom cap number new it (text ++ piece)) m
+    (λ bytes left may g. record {
       whole =
-          m.whole ∙ ap (λ l. text ++ l) (
-          text-next cap count queued (left_in it left) t.port full four low t.next
+          g.whole ∙ ap (λ l. text ++ l) (
+          text-next cap count queued (left_in it left) t.port (full left may) four low t.next
           ∙ ap (λ r. flat_map with_feed (barriers cap count r ++ r ∷ []) ++ text_from cap (one_more (is_request r) count) (without_first queued t.port) (left_in it left)) (sym t.rest_is)
           ∙ ap (λ k. piece ++ text_from cap k (without_first queued t.port) (left_in it left)) (sym n)
           ∙ ap (λ (h : Queued). piece ++ text_from cap number h (left_in it left)) (sym t.new_is))
           ∙ sym (append_assoc text piece (text_from cap number new (left_in it left)));
-      inside = m.inside;
-      bad = m.bad;
-    }
+      inside = g.inside;
+      bad = g.bad;
+    })
 
 pub merging-next : (cap count number : ℕ) (start now : Option (List ℕ)) (queued new : Queued) (it : Place) (before mid after : Option (List ℕ)) (rest : List ℕ) → IsFilled cap count start now queued it before mid → length queued.queues ≡ 4 → queued.turn < 4 → IsAdmitted queued new (Some rest)
     → number ≡ one_more (is_request rest) count → Appends mid after (flat_map with_feed (barriers cap count rest ++ rest ∷ [])) → HasMerged cap number start now new it before after
@@ -169,19 +166,18 @@ fewer-left queued mid new it that rest e few low four turn a =
 -- ---- It is cut off
 
 -- what was written begins the merged lines
-cut-of : (cap count : ℕ) (start now : Option (List ℕ)) (queued : Queued) (it : Place) (before after : Option (List ℕ)) (text : List ℕ) → GivesIf cap count start now queued it text → AppendsPrefix before after text → BeginsToMerge cap start before after
-cut-of cap count None now queued it before after text m w = (text, tt, w)
-cut-of cap count (Some bytes) None queued it before after text m w = absurd m
-cut-of cap count (Some bytes) (Some left) queued it before after text m w =
-    (merged_behind cap bytes, refl, subst (AppendsPrefix before after) (sym m.whole) (prefix-longer before after text (text_from cap count queued (left_in it left)) w))
+cut-of : (cap count : ℕ) (start now : Option (List ℕ)) (queued : Queued) (it : Place) (before after : Option (List ℕ)) (text : List ℕ) → GivesAll cap count start now queued it text → EndsAt start it.ahead now → AppendsPrefix before after text → BeginsToMerge cap start before after
+cut-of cap count start now queued it before after text m e w =
+    let b = behind start now it.ahead m.taken m.took e in
+    (m.taken ++ b.rest, b.tells, subst (AppendsPrefix before after) (sym (m.holds b.rest b.may).whole) (prefix-longer before after text (text_from cap count queued (left_in it b.rest)) w))
 
-pub cut-here : (cap count : ℕ) (start now : Option (List ℕ)) (queued : Queued) (it : Place) (before after : Option (List ℕ)) → HasMerged cap count start now queued it before after → BeginsToMerge cap start before after
-cut-here cap count start now queued it before after m = cut-of cap count start now queued it before after m.text m.gives (prefix-whole before after m.text m.wrote)
+pub cut-here : (cap count : ℕ) (start now : Option (List ℕ)) (queued : Queued) (it : Place) (before after : Option (List ℕ)) → HasMerged cap count start now queued it before after → EndsAt start it.ahead now → BeginsToMerge cap start before after
+cut-here cap count start now queued it before after m e = cut-of cap count start now queued it before after m.text m.gives e (prefix-whole before after m.text m.wrote)
 
-pub cut-next : (cap count : ℕ) (start now : Option (List ℕ)) (queued new : Queued) (it : Place) (before mid after : Option (List ℕ)) (rest : List ℕ) → IsFilled cap count start now queued it before mid → length queued.queues ≡ 4 → queued.turn < 4 → IsAdmitted queued new (Some rest)
+pub cut-next : (cap count : ℕ) (start now : Option (List ℕ)) (queued new : Queued) (it : Place) (before mid after : Option (List ℕ)) (rest : List ℕ) → IsFilled cap count start now queued it before mid → EndsAt start it.ahead now → length queued.queues ≡ 4 → queued.turn < 4 → IsAdmitted queued new (Some rest)
     → AppendsPrefix mid after (flat_map with_feed (barriers cap count rest ++ rest ∷ [])) → BeginsToMerge cap start before after
-cut-next cap count start now queued new it before mid after rest f four low a w =
+cut-next cap count start now queued new it before mid after rest f e four low a w =
     let piece : List ℕ = flat_map with_feed (barriers cap count rest ++ rest ∷ []) in
     cut-of cap (one_more (is_request rest) count) start now new it before after (f.merged.text ++ piece)
-    (gives-next cap count (one_more (is_request rest) count) start now queued new it f.merged.text rest f.merged.gives f.full four low a refl)
+    (gives-next cap count (one_more (is_request rest) count) start now queued new it f.merged.text rest f.merged.gives f.full four low a refl) e
     (prefix-behind before mid after f.merged.text piece f.merged.wrote w)

@@ -17,7 +17,7 @@ use Rattle.trace_replay.specs.Replay.{Answers, JobAnswers, PartAnswers, Reports,
 use Rattle.reports.specs.Ages.{IsCapped, overtaking}
 use Rattle.fair_queue.specs.Answering.{IsMerged, ReadsInput, RefusalAnswers, merged, merged_in}
 use Rattle.fair_queue.specs.Merged.{merged_behind}
-use Rattle.fair_queue.specs.Serving.{IsPortsJob, IsUnmerged, KeepsAges, PortsAnswers, ServesIf}
+use Rattle.fair_queue.specs.Serving.{IsMergedJob, IsPortsJob, IsUnmerged, KeepsAges, PortsAnswers, Serves}
 
 -- the laws that this rests on
 pub record Laws : Type 0 where
@@ -45,7 +45,7 @@ opens-again laws cap bytes (Accepts h text rest) is fine = (h, text, rest, is, l
 opens-again laws cap bytes (Refuses reason) is fine = cc
 
 job-known : Laws → (cap : ℕ) (bytes : List ℕ) (it : Outcome) (job : List ℕ) → merged cap bytes ≡ it → it.status ≡ status.Ok → job ≡ it.text → (h : Header) (text : List ℕ) (trace : List TraceLine) (refused : Option ℕ) → IsJobOf (Some job) h text trace refused
-    → IsPortsJob cap (Some bytes) h text trace refused
+    → IsMergedJob cap bytes h text trace refused
 job-known laws cap bytes it job is fine same h text trace refused (rest, opens, spells) =
     let (other, own, behind, at_first, again) = opens-again laws cap bytes (opening_of bytes) refl (ap (λ (k : Outcome). k.status) is ∙ fine) in
     let own_text : job ≡ (merged cap bytes).text = same ∙ ap (λ (k : Outcome). k.text) (sym is) in
@@ -59,8 +59,9 @@ job-known laws cap bytes it job is fine same h text trace refused (rest, opens, 
 
 job-of : Laws → (cap : ℕ) (old : Option (List ℕ)) (it : Outcome) (job : List ℕ) → IsMerged cap old it → it.status ≡ status.Ok → job ≡ it.text → (h : Header) (text : List ℕ) (trace : List TraceLine) (refused : Option ℕ) → IsJobOf (Some job) h text trace refused
     → IsPortsJob cap old h text trace refused
-job-of laws cap None it job is fine same h text trace refused j = (job, j)
-job-of laws cap (Some bytes) it job is fine same h text trace refused j = job-known laws cap bytes it job is fine same h text trace refused j
+job-of laws cap None it job (inl (bytes, is)) fine same h text trace refused j = (bytes, tt, job-known laws cap bytes it job is fine same h text trace refused j)
+job-of laws cap None it job (inr (reason, is)) fine same h text trace refused j = absurd (let f : status.Refused ≡ status.Ok = ap (λ (k : Outcome). k.status) (sym is) ∙ fine in cc)
+job-of laws cap (Some bytes) it job is fine same h text trace refused j = (bytes, refl, job-known laws cap bytes it job is fine same h text trace refused j)
 
 -- its opening is not refused
 none-refused : Laws → (cap : ℕ) (old : Option (List ℕ)) (it : Outcome) (job : List ℕ) → IsMerged cap old it → it.status ≡ status.Ok → job ≡ it.text → (reason : ℕ) → opening_of job ≡ Refuses reason → IsUnmerged old reason
@@ -80,20 +81,19 @@ keeps-ages laws cap one rest h trace refused run clock spells is = λ earlier la
     e
 
 serves-of : Laws → (cap : ℕ) → 1 ≤ cap → (old : Option (List ℕ)) (h : Header) (text : List ℕ) (trace : List TraceLine) (refused : Option ℕ) (before after : Option (List ℕ)) → IsPortsJob cap old h text trace refused → Reports h text trace refused before after
-    → ServesIf cap old h text trace refused before after
-serves-of laws cap one None h text trace refused before after j r = r
-serves-of laws cap one (Some bytes) h text trace refused before after (rest, opens, spells) r = record {
+    → Serves cap h text trace refused before after
+serves-of laws cap one old h text trace refused before after (bytes, tells, job) r = record {
   run = r.run;
   clock = r.clock;
   is_run = r.is_run;
   promises = r.promises;
-  ages = keeps-ages laws cap one rest h trace refused r.run r.clock spells r.is_run;
+  ages = keeps-ages laws cap one job.0 h trace refused r.run r.clock job.2 r.is_run;
   wrote = r.wrote;
 }
 
 -- ---- The answer
 
-of-job : Laws → (cap : ℕ) → 1 ≤ cap → (answer : Status) (old new : Option (List ℕ)) (h : Header) (text : List ℕ) (trace : List TraceLine) (refused : Option ℕ) (left left_after before after : Option (List ℕ)) → ReadsInput old new → IsPortsJob cap old h text trace refused
+of-job : Laws → (cap : ℕ) → 1 ≤ cap → (answer : Status) (old new : Option (List ℕ)) (h : Header) (text : List ℕ) (trace : List TraceLine) (refused : Option ℕ) (left left_after before after : Option (List ℕ)) → ReadsInput cap old new → IsPortsJob cap old h text trace refused
     → JobAnswers answer h text trace refused left left_after before after → PortsAnswers cap answer old new before after
 of-job laws cap one status.Ok old new h text trace None left left_after before after read j (none, used, r) = ((h, text, trace, j, serves-of laws cap one old h text trace None before after j r), read)
 of-job laws cap one status.Ok old new h text trace (Some reason) left left_after before after read j (none, used, r) = cc
@@ -131,7 +131,7 @@ of-stop cap status.WriteFault old new left left_after before after other s = abs
 of-stop cap status.Usage old new left left_after before after other s = absurd s
 of-stop cap status.Broken old new left left_after before after other s = absurd s
 
-served-of : Laws → (cap : ℕ) → 1 ≤ cap → (answer : Status) (old new : Option (List ℕ)) (it : Outcome) (job : List ℕ) (left before after : Option (List ℕ)) → IsMerged cap old it → it.status ≡ status.Ok → job ≡ it.text → ReadsInput old new → answer ≢ status.ReadFault
+served-of : Laws → (cap : ℕ) → 1 ≤ cap → (answer : Status) (old new : Option (List ℕ)) (it : Outcome) (job : List ℕ) (left before after : Option (List ℕ)) → IsMerged cap old it → it.status ≡ status.Ok → job ≡ it.text → ReadsInput cap old new → answer ≢ status.ReadFault
     → Answers answer (Some job) left before after → PortsAnswers cap answer old new before after
 served-of laws cap one answer old new it job left before after is fine same read other (inl (h, text, trace, refused, j, inside, a)) =
     of-job laws cap one answer old new h text trace refused (Some job) left before after read (job-of laws cap old it job is fine same h text trace refused j) a
@@ -140,21 +140,24 @@ served-of laws cap one answer old new it job left before after is fine same read
 served-of laws cap one answer old new it job left before after is fine same read other (inr (inr (inr s))) = of-stop cap answer old new (Some job) left before after other s
 
 -- the answer of a replay of what a merge wrote
-pub served : Laws → (cap : ℕ) → 1 ≤ cap → (answer : Status) (old new : Option (List ℕ)) (first job other : List ℕ) (before after : Option (List ℕ)) → first ≡ [] → other ≡ job → (((it : Outcome) × IsMerged cap old it × (status.Ok ≡ it.status) × Appends (Some first) (Some job) it.text) × ReadsInput old new)
+pub served : Laws → (cap : ℕ) → 1 ≤ cap → (answer : Status) (old new : Option (List ℕ)) (first job other : List ℕ) (before after : Option (List ℕ)) → first ≡ [] → other ≡ job → (((it : Outcome) × IsMerged cap old it × (status.Ok ≡ it.status) × Appends (Some first) (Some job) it.text) × ReadsInput cap old new)
     → answer ≢ status.ReadFault → ((left : Option (List ℕ)) × Answers answer (Some other) left before after) → PortsAnswers cap answer old new before after
 served laws cap one answer old new first job other before after begun same ((it, is, fine, wrote), read) none (left, a) =
     served-of laws cap one answer old new it other left before after is (sym fine) (same ∙ wrote ∙ ap (λ l. l ++ it.text) begun) read none a
 
 -- ---- The opening is refused
 
-refused-of : (cap : ℕ) (old : Option (List ℕ)) (it : Outcome) → IsMerged cap old it → it.status ≡ status.Refused → (reason : ℕ) × IsUnmerged old reason × (it.text ≡ (refused_opening reason).text)
-refused-of cap None it (inl fine) e = let f : status.Ok ≡ status.Refused = sym fine ∙ e in cc
-refused-of cap None it (inr (reason, is)) e = (reason, tt, ap (λ (k : Outcome). k.text) is)
-refused-of cap (Some bytes) it is e = go (opening_of bytes) refl (ap (λ (k : Outcome). k.status) is ∙ e) (ap (λ (k : Outcome). k.text) (sym is))
+refused-known : (cap : ℕ) (bytes : List ℕ) (it : Outcome) → merged cap bytes ≡ it → it.status ≡ status.Refused → (reason : ℕ) × (opening_of bytes ≡ Refuses reason) × (it.text ≡ (refused_opening reason).text)
+refused-known cap bytes it is e = go (opening_of bytes) refl (ap (λ (k : Outcome). k.status) is ∙ e) (ap (λ (k : Outcome). k.text) (sym is))
   where
     go : (o : Opens) → opening_of bytes ≡ o → (merged_in cap o).status ≡ status.Refused → it.text ≡ (merged_in cap o).text → (reason : ℕ) × (opening_of bytes ≡ Refuses reason) × (it.text ≡ (refused_opening reason).text)
     go (Accepts h text rest) is e same = cc
     go (Refuses reason) is e same = (reason, is, same)
+
+refused-of : (cap : ℕ) (old : Option (List ℕ)) (it : Outcome) → IsMerged cap old it → it.status ≡ status.Refused → (reason : ℕ) × IsUnmerged old reason × (it.text ≡ (refused_opening reason).text)
+refused-of cap None it (inl (bytes, is)) e = let r = refused-known cap bytes it is e in (r.0, tt, r.2)
+refused-of cap None it (inr (reason, is)) e = (reason, tt, ap (λ (k : Outcome). k.text) is)
+refused-of cap (Some bytes) it is e = refused-known cap bytes it is e
 
 of-refusal : (cap : ℕ) (answer : Status) (old new : Option (List ℕ)) (reason : ℕ) (before after : Option (List ℕ)) → IsUnmerged old reason → RefusalAnswers answer (refused_opening reason).text before after → PortsAnswers cap answer old new before after
 of-refusal cap status.Refused old new reason before after u o = inr (reason, u, o)

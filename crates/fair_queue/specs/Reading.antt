@@ -1,5 +1,7 @@
 -- How the lines of ports are read, one after another.
-use Rattle.std.specs.Prelude.{ℕ, ◌≡◌, ◌≤◌, ◌<◌, ◌+◌, ⊤, length, Bool, true, false, List, [], drop, Option, Some, None}
+use Rattle.std.specs.Prelude.{ℕ, ◌≡◌, ◌≤◌, ◌<◌, ◌+◌, ◌++◌, ⊤, length, Bool, true, false, List, [], drop, Option, Some, None}
+use Rattle.std.specs.Io.KnownBytes.{Consumes}
+use Rattle.ddr_io.specs.Line.{next_bytes}
 use Rattle.ddr_io.specs.Reading.{Reading}
 use Rattle.ddr_io.specs.declared.line_reader.Line.{Line}
 use Rattle.ddr_io.specs.declared.line_reader.Line.TheVariants.{Text}
@@ -33,11 +35,34 @@ waiting (Waits port) = 1
 waiting Bad = 0
 waiting End = 0
 
--- what is left stays, where the bytes are known
+-- ---- The bytes that were read
+
+-- of the bytes that a reader of lines holds, those that are not read: behind a bad line it reads no more, and all that it holds count as read
+abbrev pub held_in : Ahead → List ℕ → List ℕ
+held_in Unknown held = held
+held_in (Waits port) held = held
+held_in Bad held = []
+held_in End held = held
+
+-- the bytes that are not read: such that the reader holds, and then those that its source has left
+abbrev pub unread : Place → Option (List ℕ) → Option (List ℕ)
+unread it left = next_bytes (held_in it.ahead it.reader.held) left
+
+-- these bytes may follow: none where the input has ended, or no known byte is left
+abbrev pub MayFollow : Ahead → Option (List ℕ) → List ℕ → Type 0
+MayFollow ahead left more = (ahead ≡ End → more ≡ []) × (left ≡ Some [] → more ≡ [])
+
+-- Some bytes were read, none behind the end of the input. This holds of those that were left before and of those that are
+-- left then, whatever these are, also where the source does not tell its bytes.
+pub record Advances (old new : Ahead) (before after : Option (List ℕ)) (Holds : List ℕ → List ℕ → Type 0) : Type 0 where
+  pub taken : List ℕ
+  pub took : Consumes before after taken
+  pub over : old ≡ End → (taken ≡ []) × (new ≡ End)
+  pub holds : (more : List ℕ) → MayFollow new after more → Holds (taken ++ more) more
+
+-- what is left stays, but for what was read
 abbrev pub IsSame : Place → Place → Option (List ℕ) → Option (List ℕ) → Type 0
-IsSame old new None after = ⊤
-IsSame old new (Some bytes) None = ⊥
-IsSame old new (Some bytes) (Some rest) = left_in old bytes ≡ left_in new rest
+IsSame old new before after = Advances old.ahead new.ahead before after (λ bytes rest. left_in old bytes ≡ left_in new rest)
 
 -- where no more lines come, no byte is left
 abbrev pub EndsWith : Ahead → Option (List ℕ) → Type 0
@@ -58,12 +83,13 @@ IsKnown (Waits port) = ⊤
 IsKnown Bad = ⊤
 IsKnown End = ⊤
 
--- the queues were filled from what is left, where the bytes are known
-abbrev pub Fills : Queued → Place → Option (List ℕ) → Queued → Place → Option (List ℕ) → Type 0
-Fills old it None new later after = ⊤
-Fills old it (Some bytes) new later None = ⊥
-Fills old it (Some bytes) new later (Some rest) =
+-- the queues were filled from what is left
+abbrev pub FillsFrom : Queued → Place → Queued → Place → List ℕ → List ℕ → Type 0
+FillsFrom old it new later bytes rest =
     (filled old (left_in it bytes).lines ≡ record { queued = new; left = (left_in later rest).lines }) × ((left_in it bytes).is_bad ≡ (left_in later rest).is_bad)
+
+abbrev pub Fills : Queued → Place → Option (List ℕ) → Queued → Place → Option (List ℕ) → Type 0
+Fills old it before new later after = Advances it.ahead later.ahead before after (FillsFrom old it new later)
 
 -- filling stops at a line whose queue is full, or at the end of the input
 abbrev pub IsStopped : Queued → Ahead → Type 0
@@ -113,12 +139,13 @@ is_bad (Waits port) = false
 is_bad Bad = true
 is_bad End = false
 
--- filling goes on from here as it would have at first, where the bytes are known
-abbrev pub Continues : Queued → Place → Option (List ℕ) → Queued → Place → Option (List ℕ) → Type 0
-Continues old it None new later after = ⊤
-Continues old it (Some bytes) new later None = ⊥
-Continues old it (Some bytes) new later (Some rest) =
+-- filling goes on from here as it would have at first
+abbrev pub ContinuesFrom : Queued → Place → Queued → Place → List ℕ → List ℕ → Type 0
+ContinuesFrom old it new later bytes rest =
     (filled old (left_in it bytes).lines ≡ filled new (left_in later rest).lines) × ((left_in it bytes).is_bad ≡ (left_in later rest).is_bad)
+
+abbrev pub Continues : Queued → Place → Option (List ℕ) → Queued → Place → Option (List ℕ) → Type 0
+Continues old it before new later after = Advances it.ahead later.ahead before after (ContinuesFrom old it new later)
 
 -- every line that was read waits, or joined a queue
 abbrev pub IsSteady : Queued → Place → Queued → Place → Type 0

@@ -17,11 +17,12 @@ use Rattle.reports.specs.Requests.{Request, requests}
 use Rattle.reports.specs.Runs.{Run}
 use Rattle.reports.specs.Sound.{IsRun}
 use Rattle.reports.specs.Whole.{whole}
-use Rattle.trace_replay.specs.Job.{IsJobOf, trace_of}
-use Rattle.trace_replay.specs.Replay.{Reports, Starts, refusal_of}
+use Rattle.trace_replay.specs.Job.{trace_of}
+use Rattle.trace_replay.specs.Replay.{Starts, refusal_of}
 use Rattle.reports.specs.Ages.{overtaking}
 use Rattle.fair_queue.specs.Answering.{ReadsInput}
 use Rattle.fair_queue.specs.Merged.{merged_behind}
+use Rattle.fair_queue.specs.Merging.{Tells}
 
 -- ---- The merged job
 
@@ -30,10 +31,9 @@ abbrev pub IsMergedJob : ℕ → List ℕ → Header → List ℕ → List Trace
 IsMergedJob cap bytes h text trace refused =
     (rest : List ℕ) × (opening_of bytes ≡ Accepts h text rest) × (trace_of (shape_of h) (merged_behind cap rest) ≡ record { lines = trace; refused = refused })
 
--- the same where the bytes are known; else it is some job
+-- the same of the bytes that the source tells, or else of some bytes
 abbrev pub IsPortsJob : ℕ → Option (List ℕ) → Header → List ℕ → List TraceLine → Option ℕ → Type 0
-IsPortsJob cap None h text trace refused = (job : List ℕ) × IsJobOf (Some job) h text trace refused
-IsPortsJob cap (Some bytes) h text trace refused = IsMergedJob cap bytes h text trace refused
+IsPortsJob cap old h text trace refused = (bytes : List ℕ) × Tells old bytes × IsMergedJob cap bytes h text trace refused
 
 -- the opening is refused with this reason
 abbrev pub IsUnmerged : Option (List ℕ) → ℕ → Type 0
@@ -55,18 +55,13 @@ pub record Serves (cap : ℕ) (h : Header) (text : List ℕ) (trace : List Trace
   pub ages : KeepsAges cap trace run
   pub wrote : Appends before after (text ++ flat_map spelled (whole h trace run clock (refusal_of trace refused)))
 
--- the same where the bytes are known; else it is the report of some job
-abbrev pub ServesIf : ℕ → Option (List ℕ) → Header → List ℕ → List TraceLine → Option ℕ → Option (List ℕ) → Option (List ℕ) → Type 0
-ServesIf cap None h text trace refused before after = Reports h text trace refused before after
-ServesIf cap (Some bytes) h text trace refused before after = Serves cap h text trace refused before after
-
 -- ---- The answer
 
 abbrev pub PortsAnswers : ℕ → Status → Option (List ℕ) → Option (List ℕ) → Option (List ℕ) → Option (List ℕ) → Type 0
 PortsAnswers cap status.Ok old new before after =
-    ((h : Header) × (text : List ℕ) × (trace : List TraceLine) × IsPortsJob cap old h text trace None × ServesIf cap old h text trace None before after) × ReadsInput old new
+    ((h : Header) × (text : List ℕ) × (trace : List TraceLine) × IsPortsJob cap old h text trace None × Serves cap h text trace None before after) × ReadsInput cap old new
 PortsAnswers cap status.Refused old new before after =
-    (((h : Header) × (text : List ℕ) × (trace : List TraceLine) × (refused : Option ℕ) × IsPortsJob cap old h text trace refused × IsSome refused × ServesIf cap old h text trace refused before after) × ReadsInput old new)
+    (((h : Header) × (text : List ℕ) × (trace : List TraceLine) × (refused : Option ℕ) × IsPortsJob cap old h text trace refused × IsSome refused × Serves cap h text trace refused before after) × ReadsInput cap old new)
     ⊎ ((reason : ℕ) × IsUnmerged old reason × Appends before after (refused_opening reason).text)
 PortsAnswers cap status.WriteFault old new before after =
     ((h : Header) × (text : List ℕ) × (trace : List TraceLine) × (refused : Option ℕ) × IsPortsJob cap old h text trace refused × Starts h text trace refused before after)

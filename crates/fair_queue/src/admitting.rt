@@ -1,9 +1,8 @@
 //! The rounds of a merge: the queues are filled, and one rest is admitted.
 ghost use Rattle.std.specs.Prelude.{◌≡◌, ◌≤◌, length, OnOk, IfOk, IfErr};
-ghost use Rattle.ddr_io.specs.Line.{next_bytes};
 ghost use Rattle.fair_queue.specs.Machine.{empty};
-ghost use Rattle.fair_queue.specs.Merging.{Merges, BeginsToMerge, ReadsToEnd, StopCause};
-ghost use Rattle.fair_queue.specs.Reading.{AreKept, EndsAt, Fills, IsSteady, IsStopped};
+ghost use Rattle.fair_queue.specs.Merging.{Merges, BeginsToMerge, ReadsEnough, StopCause};
+ghost use Rattle.fair_queue.specs.Reading.{AreKept, EndsAt, Fills, IsSteady, IsStopped, unread};
 ghost use Rattle.ddr_text.specs.Stop.{ReadCause};
 
 use crate::port_lines::{Ahead, PortLines};
@@ -23,9 +22,9 @@ pub(crate) fn merge_lines<S: Source, K: Sink>(
     requires cap { 1 ≤ cap }
     requires queues { queues.old ≡ empty }
     requires lines { lines.old ≡ record { reader = lines.old.reader; number = 1; ahead = Ahead.Unknown } }
-    ensures whole { OnOk result (Merges cap (next_bytes lines.old.reader.held (S.left source.old)) (K.written sink.old) (K.written sink.new)) }
-    ensures used_up { OnOk result (ReadsToEnd (next_bytes lines.old.reader.held (S.left source.old)) (S.left source.new)) }
-    ensures cut { IfErr result (λ stop. BeginsToMerge cap (next_bytes lines.old.reader.held (S.left source.old)) (K.written sink.old) (K.written sink.new)) }
+    ensures whole { OnOk result (Merges cap (unread lines.old (S.left source.old)) (K.written sink.old) (K.written sink.new)) }
+    ensures used_up { OnOk result (ReadsEnough cap (unread lines.old (S.left source.old)) (S.left source.new)) }
+    ensures cut { IfErr result (λ stop. BeginsToMerge cap (unread lines.old (S.left source.old)) (K.written sink.old) (K.written sink.new)) }
     ensures kept { OnOk result ((S.faults source.new ≡ S.faults source.old) × (K.faults sink.new ≡ K.faults sink.old)) }
     ensures cause { IfErr result (StopCause (S.faults source.old) (S.faults source.new) (K.faults sink.old) (K.faults sink.new)) }
 {
@@ -42,9 +41,9 @@ pub(crate) fn merge_lines<S: Source, K: Sink>(
 // Moves the next lines into their queues, as long as there is one and its queue is not full.
 fn fill<S: Source>(queues: &mut Queues, lines: &mut PortLines, source: &mut S) -> Result<(), Stop>
     requires { length queues.old.queues ≡ 4 }
-    ensures filled { OnOk result (Fills queues.old lines.old (next_bytes lines.old.reader.held (S.left source.old)) queues.new lines.new (next_bytes lines.new.reader.held (S.left source.new))) }
+    ensures filled { OnOk result (Fills queues.old lines.old (unread lines.old (S.left source.old)) queues.new lines.new (unread lines.new (S.left source.new))) }
     ensures stopped { OnOk result (IsStopped queues.new lines.new.ahead) }
-    ensures ended { OnOk result (EndsAt (next_bytes lines.old.reader.held (S.left source.old)) lines.old.ahead (next_bytes lines.old.reader.held (S.left source.old)) → EndsAt (next_bytes lines.old.reader.held (S.left source.old)) lines.new.ahead (next_bytes lines.new.reader.held (S.left source.new))) }
+    ensures ended { OnOk result (EndsAt (unread lines.old (S.left source.old)) lines.old.ahead (unread lines.old (S.left source.old)) → EndsAt (unread lines.old (S.left source.old)) lines.new.ahead (unread lines.new (S.left source.new))) }
     ensures queues { OnOk result (AreKept queues.old queues.new) }
     ensures steady { OnOk result (IsSteady queues.old lines.old queues.new lines.new) }
     ensures few { OnOk result (lines.new.number ≤ 1048577) }

@@ -4,7 +4,7 @@ ghost use Rattle.ddr_io.specs.Faults.{Rose};
 ghost use Rattle.ddr_text.specs.Opening.{Accepts, opening_of};
 ghost use Rattle.speed_bin.specs.declared.header.Header.{Header};
 ghost use Rattle.trace_replay.specs.Replay.{Answers};
-ghost use Rattle.fair_queue.specs.Answering.{IsWhole, RefusalAnswers};
+ghost use Rattle.fair_queue.specs.Answering.{RefusalAnswers};
 ghost use Rattle.fair_queue.specs.Arrivals.{input_of};
 ghost use Rattle.fair_queue.specs.Serving.{PortsAnswers};
 ghost use Rattle.fair_queue.specs.Turns.{IsFair};
@@ -26,11 +26,12 @@ pub fn ports<S: Source, K: Sink>(alloc: Global, cap: u32, source: &mut S, sink: 
     // Each port's rests stand in their order, each once, and the ports take turns.
     ensures fair { (h : Header) (bytes text rest : List ℕ) → S.left source.old ≡ Some bytes → opening_of bytes ≡ Accepts h text rest → IsFair (input_of rest).lines }
 
-    // A fault is told where it was counted, and none is swallowed.
+    // A fault is told where it was counted, and none is passed over: only a read fault leaves another count of the source,
+    // and only a write fault one of the sink.
     ensures read { result ≡ Status.ReadFault → Rose (S.faults source.old) (S.faults source.new) }
     ensures write { result ≡ Status.WriteFault → Rose (K.faults sink.old) (K.faults sink.new) }
-    ensures kept { IsWhole result → S.faults source.new ≡ S.faults source.old }
-    ensures kept_written { IsWhole result → K.faults sink.new ≡ K.faults sink.old }
+    ensures reads_kept { result ≢ Status.ReadFault → S.faults source.new ≡ S.faults source.old }
+    ensures writes_kept { result ≢ Status.WriteFault → K.faults sink.new ≡ K.faults sink.old }
 {
     ddr_text::laws::opening_opens_again();
     caps_requests();
@@ -55,7 +56,7 @@ fn replay_bytes<K: Sink>(alloc: Global, job: Vec<u8>, sink: &mut K) -> Status
     ensures broken { result ≢ Status.Broken }
     ensures read { result ≢ Status.ReadFault }
     ensures write { result ≡ Status.WriteFault → Rose (K.faults sink.old) (K.faults sink.new) }
-    ensures kept_written { IsWhole result → K.faults sink.new ≡ K.faults sink.old }
+    ensures writes_kept { result ≢ Status.WriteFault → K.faults sink.new ≡ K.faults sink.old }
 {
     let mut source = PlainSource::new(job);
     replay(alloc, &mut source, sink)
@@ -65,7 +66,7 @@ fn replay_bytes<K: Sink>(alloc: Global, job: Vec<u8>, sink: &mut K) -> Status
 fn refuse<K: Sink>(line: &[u8], sink: &mut K) -> Status
     ensures answer { RefusalAnswers result line.now (K.written sink.old) (K.written sink.new) }
     ensures write { result ≡ Status.WriteFault → Rose (K.faults sink.old) (K.faults sink.new) }
-    ensures kept { IsWhole result → K.faults sink.new ≡ K.faults sink.old }
+    ensures writes_kept { result ≢ Status.WriteFault → K.faults sink.new ≡ K.faults sink.old }
 {
     match ddr_text::put(line, sink) {
         Ok(()) => Status::Refused,

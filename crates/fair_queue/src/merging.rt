@@ -4,10 +4,10 @@ ghost use Rattle.ddr_io.specs.Faults.{Rose};
 ghost use Rattle.ddr_io.specs.Line.{next_bytes};
 ghost use Rattle.ddr_text.specs.Opening.{Accepts, opening_of};
 ghost use Rattle.speed_bin.specs.declared.header.Header.{Header};
-ghost use Rattle.fair_queue.specs.Answering.{IsWhole, MergeAnswers, BehindAnswers, JobMerges, JobBeginsToMerge};
+ghost use Rattle.fair_queue.specs.Answering.{MergeAnswers, BehindAnswers, JobMerges, JobBeginsToMerge};
 ghost use Rattle.fair_queue.specs.Arrivals.{input_of};
 ghost use Rattle.fair_queue.specs.Machine.{empty};
-ghost use Rattle.fair_queue.specs.Merging.{ReadsToEnd, StopCause};
+ghost use Rattle.fair_queue.specs.Merging.{ReadsEnough, StopCause};
 ghost use Rattle.fair_queue.specs.Turns.{IsFair};
 
 use crate::admitting::merge_lines;
@@ -31,11 +31,12 @@ pub fn merge<S: Source, K: Sink>(alloc: Global, cap: u32, source: &mut S, sink: 
     // Each port's rests stand in their order, each once, and the ports take turns.
     ensures fair { (h : Header) (bytes text rest : List ℕ) → S.left source.old ≡ Some bytes → opening_of bytes ≡ Accepts h text rest → IsFair (input_of rest).lines }
 
-    // A fault is told where it was counted, and none is swallowed.
+    // A fault is told where it was counted, and none is passed over: only a read fault leaves another count of the source,
+    // and only a write fault one of the sink.
     ensures read { result ≡ Status.ReadFault → Rose (S.faults source.old) (S.faults source.new) }
     ensures write { result ≡ Status.WriteFault → Rose (K.faults sink.old) (K.faults sink.new) }
-    ensures kept { IsWhole result → S.faults source.new ≡ S.faults source.old }
-    ensures kept_written { IsWhole result → K.faults sink.new ≡ K.faults sink.old }
+    ensures reads_kept { result ≢ Status.ReadFault → S.faults source.new ≡ S.faults source.old }
+    ensures writes_kept { result ≢ Status.WriteFault → K.faults sink.new ≡ K.faults sink.old }
 {
     merges_fairly();
     let mut reader = LineReader::new();
@@ -63,8 +64,8 @@ fn merge_behind<S: Source, K: Sink>(
     ensures answer { BehindAnswers cap text.now (next_bytes reader.held (S.left source.old)) result (S.left source.new) (K.written sink.old) (K.written sink.new) }
     ensures read { result ≡ Status.ReadFault → Rose (S.faults source.old) (S.faults source.new) }
     ensures write { result ≡ Status.WriteFault → Rose (K.faults sink.old) (K.faults sink.new) }
-    ensures kept { IsWhole result → S.faults source.new ≡ S.faults source.old }
-    ensures kept_written { IsWhole result → K.faults sink.new ≡ K.faults sink.old }
+    ensures reads_kept { result ≢ Status.ReadFault → S.faults source.new ≡ S.faults source.old }
+    ensures writes_kept { result ≢ Status.WriteFault → K.faults sink.new ≡ K.faults sink.old }
 {
     match merge_job(alloc, cap, text, reader, source, sink) {
         Ok(()) => Status::Ok,
@@ -84,7 +85,7 @@ fn merge_job<S: Source, K: Sink>(
     requires cap { 1 ≤ cap }
     requires going_on { reader.last ≡ Line.Text }
     ensures whole { OnOk result (JobMerges cap text.now (next_bytes reader.held (S.left source.old)) (K.written sink.old) (K.written sink.new)) }
-    ensures used_up { OnOk result (ReadsToEnd (next_bytes reader.held (S.left source.old)) (S.left source.new)) }
+    ensures used_up { OnOk result (ReadsEnough cap (next_bytes reader.held (S.left source.old)) (S.left source.new)) }
     ensures cut { IfErr result (λ stop. JobBeginsToMerge cap text.now (next_bytes reader.held (S.left source.old)) (K.written sink.old) (K.written sink.new)) }
     ensures kept { OnOk result ((S.faults source.new ≡ S.faults source.old) × (K.faults sink.new ≡ K.faults sink.old)) }
     ensures cause { IfErr result (StopCause (S.faults source.old) (S.faults source.new) (K.faults sink.old) (K.faults sink.new)) }

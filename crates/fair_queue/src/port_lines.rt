@@ -1,8 +1,7 @@
 //! Reading the lines of ports, one at a time.
 ghost use Rattle.std.specs.Prelude.{ℕ, ◌≡◌, ◌≢◌, ◌+◌, ◌-◌, ◌<◌, ◌≤◌, ◌&&◌, ◌==◌, length, drop, IfSome, OnOk, IfErr, Some, None, Option, option_map};
-ghost use Rattle.ddr_io.specs.Line.{next_bytes};
 ghost use Rattle.fair_queue.specs.Arrivals.{framed, arrival_of, is_port};
-ghost use Rattle.fair_queue.specs.Reading.{IsSame, IsKnown, EndsAt, IsFramed, Frames, IsWaiting, is_bad, port_in, waiting, with_ahead};
+ghost use Rattle.fair_queue.specs.Reading.{IsSame, IsKnown, EndsAt, IsFramed, Frames, IsWaiting, is_bad, port_in, unread, waiting, with_ahead};
 ghost use Rattle.ddr_text.specs.Stop.{ReadCause};
 
 use crate::rest::Rest;
@@ -61,11 +60,11 @@ impl PortLines {
 
     /// Reads the next line, unless one waits, or the input has ended.
     pub(crate) fn look<S: Source>(&mut self, source: &mut S) -> Result<(), Stop>
-        ensures same { OnOk result (IsSame self.old self.new (next_bytes self.old.reader.held (S.left source.old)) (next_bytes self.new.reader.held (S.left source.new))) }
+        ensures same { OnOk result (IsSame self.old self.new (unread self.old (S.left source.old)) (unread self.new (S.left source.new))) }
         ensures known { OnOk result (IsKnown self.new.ahead) }
         ensures steady { OnOk result (self.new.number + waiting self.old.ahead ≡ self.old.number + waiting self.new.ahead) }
         ensures few { OnOk result (self.new.number ≤ 1048577) }
-        ensures ended { OnOk result (EndsAt (next_bytes self.old.reader.held (S.left source.old)) self.old.ahead (next_bytes self.old.reader.held (S.left source.old)) → EndsAt (next_bytes self.old.reader.held (S.left source.old)) self.new.ahead (next_bytes self.new.reader.held (S.left source.new))) }
+        ensures ended { OnOk result (EndsAt (unread self.old (S.left source.old)) self.old.ahead (unread self.old (S.left source.old)) → EndsAt (unread self.old (S.left source.old)) self.new.ahead (unread self.new (S.left source.new))) }
         ensures kept { OnOk result (S.faults source.new ≡ S.faults source.old) }
         ensures cause { IfErr result (ReadCause (S.faults source.old) (S.faults source.new)) }
     {
@@ -130,10 +129,10 @@ impl PortLines {
     // Reads the next line.
     fn read<S: Source>(&mut self, source: &mut S) -> Result<(), Stop>
         requires { self.old.ahead ≡ Ahead.Unknown }
-        ensures same { OnOk result (IsSame self.old self.new (next_bytes self.old.reader.held (S.left source.old)) (next_bytes self.new.reader.held (S.left source.new))) }
+        ensures same { OnOk result (IsSame self.old self.new (unread self.old (S.left source.old)) (unread self.new (S.left source.new))) }
         ensures known { OnOk result (IsKnown self.new.ahead) }
         ensures steady { OnOk result (self.new.number ≡ self.old.number + waiting self.new.ahead) }
-        ensures ended { OnOk result (EndsAt (next_bytes self.old.reader.held (S.left source.old)) self.new.ahead (next_bytes self.new.reader.held (S.left source.new))) }
+        ensures ended { OnOk result (EndsAt (unread self.old (S.left source.old)) self.new.ahead (unread self.new (S.left source.new))) }
         ensures kept { OnOk result (S.faults source.new ≡ S.faults source.old) }
         ensures cause { IfErr result (ReadCause (S.faults source.old) (S.faults source.new)) }
     {

@@ -7,12 +7,12 @@ use Rattle.speed_bin.specs.declared.header.Header.{Header}
 use Rattle.log_auditor.specs.Auditing.{StandsFor, Taken, told}
 use Rattle.log_auditor.specs.Findings.{breach_at, breach_of, end_of, fine_or, is_fine, is_place, log_of, numbers_from, on_line}
 use Rattle.log_auditor.specs.Progress.{Audited}
-use Rattle.log_auditor.specs.Reading.{is_whole, stage_after}
+use Rattle.ddr_text.specs.ReportReading.{is_whole, stage_after}
 use Rattle.log_auditor.specs.declared.auditor.Auditor.{Auditor}
 use Rattle.log_auditor.specs.declared.finding.Finding.{Finding}
 use Rattle.log_auditor.specs.declared.finding.Finding.TheVariants.{Fine, Broken, Refused}
-use Rattle.log_auditor.specs.declared.report_reader.Stage.{Stage}
-use Rattle.log_auditor.specs.declared.report_reader.Stage.TheVariants.{Body, Counts, Ended, Closed}
+use Rattle.ddr_text.specs.declared.report_reader.Stage.{Stage}
+use Rattle.ddr_text.specs.declared.report_reader.Stage.TheVariants.{Body, Counts, Ended, Closed}
 use Rattle.log_auditor.specs.declared.verdict.Rule.{Rule}
 use Rattle.log_auditor.specs.declared.verdict.Verdict.{Verdict}
 use Rattle.log_auditor.specs.declared.verdict.Verdict.TheVariants.{Fine as FineVerdict, Breaks}

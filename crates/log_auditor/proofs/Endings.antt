@@ -14,30 +14,23 @@ use Rattle.ddr_text.specs.declared.lines.ReportLine.{ReportLine}
 use Rattle.ddr_text.specs.declared.opening.Opening.TheVariants.{Accepted, Refused as RefusedOpening}
 use Rattle.ddr_text.specs.declared.stop.Stop.{Stop}
 use Rattle.ddr_text.specs.declared.stop.Stop.TheVariants.{ReadFault, WriteFault, OutOfMemory}
-use Rattle.ddr_text.proofs.Outcomes.{none-left, reads-opened}
+use Rattle.ddr_text.proofs.LinesInFront.{all_read, with_lines_end, with_lines_refusal}
+use Rattle.ddr_text.proofs.Outcomes.{reads-opened}
 use Rattle.ddr_text.proofs.Prefixes.{no-prefix}
 use Rattle.speed_bin.specs.declared.header.Header.{Header}
 use Rattle.speed_bin.specs.Header.{shape_of}
 use Rattle.log_auditor.specs.Findings.{Answers, Finds, breach_of, fine_or, finding_text, found_behind, found_in, refused_or, status_of}
-use Rattle.log_auditor.specs.Progress.{Audited, FindsBehind, IsWritten, LeftBehind, Reads, ReadsAllOf, with_lines}
-use Rattle.log_auditor.specs.Reading.{IsStep, Lines, Place, lines_in, lines_left, refusal_at, with_line}
+use Rattle.log_auditor.specs.Progress.{Audited, FindsBehind, IsWritten, Reads, ReadsAllOf}
+use Rattle.ddr_text.specs.ReportReading.{IsStep, LeftOf, Lines, Place, lines_behind, lines_in, lines_left, refusal_at, with_line, with_lines}
 use Rattle.log_auditor.specs.declared.auditor.Auditor.{Auditor}
 use Rattle.log_auditor.specs.declared.finding.Finding.{Finding}
 use Rattle.log_auditor.specs.declared.finding.Finding.TheVariants.{Fine, Broken, Refused}
-use Rattle.log_auditor.specs.declared.report_reader.Next.TheVariants.{Line, End, Refused as RefusedNext, Failed}
-use Rattle.log_auditor.specs.declared.report_reader.Stage.TheVariants.{Body}
-use Rattle.log_auditor.proofs.Lines.{with_lines_end, with_lines_next, with_lines_refusal}
+use Rattle.ddr_text.specs.declared.report_reader.Next.TheVariants.{Line, End, Refused as RefusedNext, Failed}
+use Rattle.ddr_text.specs.declared.report_reader.Stage.TheVariants.{Body}
 
 -- ---- Lines behind an opening
 
-pub left_next : (h : Header) (start now after : Option (List ℕ)) (lines : List ReportLine) (line : ReportLine) (old new : Place) → LeftBehind h start lines old now → IsStep old new now after (Line line) → LeftBehind h start (lines ++ line ∷ []) new after
-left_next h None now after lines line old new behind step = tt
-left_next h (Some bytes) None after lines line old new behind step = absurd behind
-left_next h (Some bytes) (Some left) after lines line old new behind step =
-    subst (λ (o : Option (List ℕ)). LeftBehind h (Some bytes) (lines ++ line ∷ []) new o) (sym step.1)
-    (behind ∙ ap (with_lines lines) step.2 ∙ with_lines_next lines line (lines_left new step.0))
-
-pub found_end : (h : Header) (start now after : Option (List ℕ)) (lines : List ReportLine) (old new : Place) (finding : Finding) → LeftBehind h start lines old now → IsStep old new now after End → finding ≡ fine_or (breach_of h lines) → FindsBehind h start finding
+pub found_end : (h : Header) (start now after : Option (List ℕ)) (lines : List ReportLine) (old new : Place) (finding : Finding) → LeftOf (lines_behind (shape_of h)) start lines old now → IsStep old new now after End → finding ≡ fine_or (breach_of h lines) → FindsBehind h start finding
 found_end h None now after lines old new finding behind step is = tt
 found_end h (Some bytes) None after lines old new finding behind step is = absurd behind
 found_end h (Some bytes) (Some left) after lines old new finding behind step is =
@@ -46,7 +39,7 @@ found_end h (Some bytes) (Some left) after lines old new finding behind step is 
     ∙ ap (λ ls. fine_or (breach_of h ls)) (with_lines_end lines (record { lines = []; refusal = None }) refl)
     ∙ sym is
 
-pub found_refused : (h : Header) (start now after : Option (List ℕ)) (lines : List ReportLine) (old new : Place) (number reason : ℕ) → LeftBehind h start lines old now → IsStep old new now after (RefusedNext number reason) → FindsBehind h start (Refused number reason)
+pub found_refused : (h : Header) (start now after : Option (List ℕ)) (lines : List ReportLine) (old new : Place) (number reason : ℕ) → LeftOf (lines_behind (shape_of h)) start lines old now → IsStep old new now after (RefusedNext number reason) → FindsBehind h start (Refused number reason)
 found_refused h None now after lines old new number reason behind step = tt
 found_refused h (Some bytes) None after lines old new number reason behind step = absurd behind
 found_refused h (Some bytes) (Some left) after lines old new number reason behind step =
@@ -59,10 +52,8 @@ all_of old new (Broken line rule) all = all
 all_of old new (Refused line reason) all = tt
 
 -- where the bytes at the start are known, all were read
-pub all_read : (h : Header) (source_old source_new now : Option (List ℕ)) (kept held : List ℕ) (lines : List ReportLine) (place new : Place) (finding : Finding) → LeftBehind h (next_bytes kept source_old) lines place now → IsStep place new now (next_bytes held source_new) End → ReadsAllOf source_old source_new finding
-all_read h None source_new now kept held lines place new finding behind step = all_of None source_new finding tt
-all_read h (Some bytes) source_new None kept held lines place new finding behind step = absurd behind
-all_read h (Some bytes) source_new (Some left) kept held lines place new finding behind step = all_of (Some bytes) source_new finding (none-left held source_new step.0)
+pub all_read_of : (h : Header) (source_old source_new now : Option (List ℕ)) (kept held : List ℕ) (lines : List ReportLine) (place new : Place) (finding : Finding) → LeftOf (lines_behind (shape_of h)) (next_bytes kept source_old) lines place now → IsStep place new now (next_bytes held source_new) End → ReadsAllOf source_old source_new finding
+all_read_of h source_old source_new now kept held lines place new finding behind step = all_of source_old source_new finding (all_read (lines_behind (shape_of h)) place new source_old source_new now kept held lines behind step)
 
 -- ---- The opening
 

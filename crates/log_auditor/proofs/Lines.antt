@@ -11,20 +11,6 @@ use Rattle.speed_bin.specs.Log.{Log, Issued as Place}
 use Rattle.speed_bin.specs.Rules.{verdict, verdict_after, verdict_at_end, broken, broken_at_end}
 use Rattle.speed_bin.specs.declared.header.Header.{Header}
 use Rattle.log_auditor.specs.Findings.{breach_at, breach_of, end_of, is_place, log_of, numbers_from, on_line}
-use Rattle.log_auditor.specs.Progress.{with_lines}
-use Rattle.log_auditor.specs.Reading.{Lines, with_line}
-
-pub with_lines_next : (lines : List ReportLine) (line : ReportLine) (rest : Lines) → with_lines lines (with_line line rest) ≡ with_lines (lines ++ line ∷ []) rest
-with_lines_next [] line rest = refl
-with_lines_next (first ∷ lines) line rest = ap (with_line first) (with_lines_next lines line rest)
-
-pub with_lines_end : (lines : List ReportLine) (rest : Lines) → rest.lines ≡ [] → (with_lines lines rest).lines ≡ lines
-with_lines_end [] rest none = none
-with_lines_end (first ∷ lines) rest none = ap (λ l. first ∷ l) (with_lines_end lines rest none)
-
-pub with_lines_refusal : (lines : List ReportLine) (rest : Lines) → (with_lines lines rest).refusal ≡ rest.refusal
-with_lines_refusal [] rest = refl
-with_lines_refusal (first ∷ lines) rest = with_lines_refusal lines rest
 
 -- ---- The log and the end
 

@@ -6,24 +6,24 @@ use Rattle.ddr_io.specs.Reading.{Reading as ReaderOfLines}
 use Rattle.ddr_io.specs.declared.line_reader.Line.TheVariants.{Text}
 use Rattle.ddr_text.specs.AcceptedReport.{IsReportLine}
 use Rattle.ddr_text.specs.declared.lines.ReportLine.{ReportLine}
+use Rattle.ddr_text.proofs.LinesInFront.{left_next}
 use Rattle.speed_bin.specs.declared.header.Header.{Header}
 use Rattle.log_auditor.specs.Auditing.{StandsFor}
 use Rattle.speed_bin.specs.Header.{shape_of}
 use Rattle.log_auditor.specs.Findings.{breach_of, fine_or}
-use Rattle.log_auditor.specs.Progress.{Audited, FindsBehind, LeftBehind, Reads, ReadsAllOf}
-use Rattle.log_auditor.specs.Reading.{IsStep, Place, StepsOn, stage_after}
+use Rattle.log_auditor.specs.Progress.{Audited, FindsBehind, Reads, ReadsAllOf}
+use Rattle.ddr_text.specs.ReportReading.{IsStep, LeftOf, Place, StepsOn, lines_behind, most_lines, stage_after}
 use Rattle.log_auditor.specs.declared.auditor.Auditor.{Auditor}
 use Rattle.log_auditor.specs.declared.finding.Finding.{Finding}
 use Rattle.log_auditor.specs.declared.finding.Finding.TheVariants.{Fine, Refused}
-use Rattle.log_auditor.specs.declared.report_reader.Next.TheVariants.{Line, End, Refused as RefusedNext}
-use Rattle.log_auditor.specs.declared.report_reader.Stage.{Stage}
-use Rattle.log_auditor.specs.declared.report_reader.Stage.TheVariants.{Body}
-use Rattle.log_auditor.specs.declared.report_reader.TheConstants.{MOST_LINES}
-use Rattle.log_auditor.proofs.Endings.{all_read, found_end, found_refused, left_next}
+use Rattle.ddr_text.specs.declared.report_reader.Next.TheVariants.{Line, End, Refused as RefusedNext}
+use Rattle.ddr_text.specs.declared.report_reader.Stage.{Stage}
+use Rattle.ddr_text.specs.declared.report_reader.Stage.TheVariants.{Body}
+use Rattle.log_auditor.proofs.Endings.{all_read_of, found_end, found_refused}
 
 -- ---- At first
 
-left_first : (h : Header) (reader : ReaderOfLines) (start : Option (List ℕ)) → LeftBehind h start [] (record { reader = reader; shape = shape_of h; stage = Body; number = 1 }) start
+left_first : (h : Header) (reader : ReaderOfLines) (start : Option (List ℕ)) → LeftOf (lines_behind (shape_of h)) start [] (record { reader = reader; shape = shape_of h; stage = Body; number = 1 }) start
 left_first h reader None = tt
 left_first h reader (Some bytes) = refl
 
@@ -55,12 +55,12 @@ pub next_reads : (h : Header) (start now after : Option (List ℕ)) (finding fou
 next_reads h start now after finding found auditor audited old new lines line number reads steps step same judge = record {
   audited = audited_at h new.stage found audited (lines ++ line ∷ []) new.number (number + 1) (steps.number ∙ ap (λ (n : ℕ). n + 1) (sym same))
       (judge h old.stage new.stage lines (audited_at h old.stage finding auditor lines number old.number same reads.audited) (inside_shape h old line reads.shape steps.inside) steps.stage);
-  behind = left_next h start now after lines line old new reads.behind step;
+  behind = left_next (lines_behind (shape_of h)) start now after lines line old new reads.behind step;
   shape = steps.shape ∙ reads.shape;
   last = steps.last;
 }
 
-pub fewer_left : (old new : Place) (line : ReportLine) → StepsOn old new line → MOST_LINES + 1 - new.number < MOST_LINES + 1 - old.number
+pub fewer_left : (old new : Place) (line : ReportLine) → StepsOn old new line → most_lines + 1 - new.number < most_lines + 1 - old.number
 fewer_left old new line steps = let few = steps.few in let next = steps.number in omega arith
 
 -- ---- The end
@@ -69,7 +69,7 @@ pub reads_found : (h : Header) (start now after : Option (List ℕ)) (finding : 
 reads_found h start now after finding auditor old new lines reads step = found_end h start now after lines old new finding reads.behind step reads.audited.found
 
 pub reads_all : (h : Header) (source_old source_new now : Option (List ℕ)) (kept held : List ℕ) (finding : Finding) (auditor : Auditor) (old new : Place) (lines : List ReportLine) → Reads h (next_bytes kept source_old) finding auditor old now lines → IsStep old new now (next_bytes held source_new) End → ReadsAllOf source_old source_new finding
-reads_all h source_old source_new now kept held finding auditor old new lines reads step = all_read h source_old source_new now kept held lines old new finding reads.behind step
+reads_all h source_old source_new now kept held finding auditor old new lines reads step = all_read_of h source_old source_new now kept held lines old new finding reads.behind step
 
 pub reads_refused : (h : Header) (start now after : Option (List ℕ)) (finding : Finding) (auditor : Auditor) (old new : Place) (lines : List ReportLine) (number reason : ℕ) → Reads h start finding auditor old now lines → IsStep old new now after (RefusedNext number reason) → FindsBehind h start (Refused number reason)
 reads_refused h start now after finding auditor old new lines number reason reads step = found_refused h start now after lines old new number reason reads.behind step

@@ -15,10 +15,10 @@ use Rattle.speed_bin.specs.Log.{Log}
 use Rattle.speed_bin.specs.Rules.{verdict, verdict_at_end}
 use Rattle.speed_bin.specs.declared.header.Header.{Header}
 use Rattle.speed_bin.specs.Header.{shape_of}
-use Rattle.log_auditor.specs.Reading.{Lines, lines_in}
+use Rattle.ddr_text.specs.ReportReading.{Lines, lines_in}
 use Rattle.log_auditor.specs.declared.finding.Finding.{Finding}
 use Rattle.log_auditor.specs.declared.finding.Finding.TheVariants.{Fine, Broken, Refused}
-use Rattle.log_auditor.specs.declared.report_reader.Stage.TheVariants.{Body}
+use Rattle.ddr_text.specs.declared.report_reader.Stage.TheVariants.{Body}
 
 -- ---- The verdict on lines
 

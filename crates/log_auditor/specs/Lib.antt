@@ -2,4 +2,3 @@ pub mod Auditing
 pub mod Findings
 pub mod Groups
 pub mod Progress
-pub mod Reading

@@ -13,12 +13,12 @@ use Rattle.std.specs.Io.KnownBytes.{Appends}
 use Rattle.log_auditor.specs.Auditing.{StandsFor}
 use Rattle.speed_bin.specs.Header.{shape_of}
 use Rattle.log_auditor.specs.Findings.{breach_of, end_of, fine_or, found_behind, log_of, finding_text, status_of}
-use Rattle.log_auditor.specs.Reading.{Lines, Place, is_whole, lines_in, lines_left, with_line}
+use Rattle.ddr_text.specs.ReportReading.{LeftOf, Lines, Place, is_whole, lines_behind}
 use Rattle.log_auditor.specs.declared.auditor.Auditor.{Auditor}
 use Rattle.log_auditor.specs.declared.finding.Finding.{Finding}
 use Rattle.log_auditor.specs.declared.finding.Finding.TheVariants.{Fine, Broken, Refused}
-use Rattle.log_auditor.specs.declared.report_reader.Stage.{Stage}
-use Rattle.log_auditor.specs.declared.report_reader.Stage.TheVariants.{Body}
+use Rattle.ddr_text.specs.declared.report_reader.Stage.{Stage}
+use Rattle.ddr_text.specs.declared.report_reader.Stage.TheVariants.{Body}
 
 -- The auditor took these lines, behind which a line with this number may stand at this stage, and found this. It took no
 -- more of them once it found a rule broken.
@@ -28,30 +28,17 @@ pub record Audited (h : Header) (stage : Stage) (number : ℕ) (finding : Findin
   pub found : finding ≡ fine_or (breach_of h lines)
   pub stands : finding ≡ Fine → is_whole stage ≡ false → StandsFor auditor h (log_of lines)
 
--- ---- The lines of known bytes
-
--- these lines in front
-abbrev pub with_lines : List ReportLine → Lines → Lines
-with_lines [] rest = rest
-with_lines (line ∷ lines) rest = with_line line (with_lines lines rest)
-
--- the lines of the bytes are these, and then those that are left
-abbrev pub LeftBehind : Header → Option (List ℕ) → List ReportLine → Place → Option (List ℕ) → Type 0
-LeftBehind h None lines it left = ⊤
-LeftBehind h (Some bytes) lines it None = ⊥
-LeftBehind h (Some bytes) lines it (Some left) = lines_in (shape_of h) Body 1 (parts_of bytes) ≡ with_lines lines (lines_left it left)
-
 -- these lines were read behind the opening, and audited
 pub record Reads (h : Header) (start : Option (List ℕ)) (finding : Finding) (auditor : Auditor) (it : Place) (left : Option (List ℕ)) (lines : List ReportLine) : Type 0 where
   pub audited : Audited h it.stage it.number finding auditor lines
-  pub behind : LeftBehind h start lines it left
+  pub behind : LeftOf (lines_behind (shape_of h)) start lines it left
   pub shape : it.shape ≡ shape_of h
   pub last : it.reader.last ≡ TextAnswer
 
 -- what is found behind an opening
 abbrev pub FindsBehind : Header → Option (List ℕ) → Finding → Type 0
 FindsBehind h None finding = ⊤
-FindsBehind h (Some bytes) finding = found_behind h (lines_in (shape_of h) Body 1 (parts_of bytes)) ≡ finding
+FindsBehind h (Some bytes) finding = found_behind h (lines_behind (shape_of h) bytes) ≡ finding
 
 -- nothing is left, unless a line is refused
 abbrev pub ReadsAllOf : Option (List ℕ) → Option (List ℕ) → Finding → Type 0

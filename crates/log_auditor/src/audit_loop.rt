@@ -9,15 +9,14 @@ ghost use Rattle.speed_bin.specs.Header.{IsAccepted, shape_of};
 ghost use Rattle.speed_bin.specs.declared.header.Header.{Header as AnyHeader};
 ghost use Rattle.log_auditor.specs.Findings.{Answers, Finds, is_place};
 ghost use Rattle.log_auditor.specs.Progress.{Audited, FindsBehind, IsWritten, ReadsAllOf};
-ghost use Rattle.log_auditor.specs.Reading.{stage_after};
-ghost use Rattle.log_auditor.specs.declared.report_reader.Stage.{Stage as AnyStage};
+ghost use Rattle.ddr_text.specs.ReportReading.{stage_after};
+ghost use Rattle.ddr_text.specs.declared.report_reader.Stage.{Stage as AnyStage};
 
 use crate::finding::Finding;
-use crate::report_reader::{Next, ReportReader};
 use crate::{Auditor, Verdict};
 use arrayvec::ArrayVec;
 use ddr_io::{Line, LineReader, Sink, Source, Status};
-use ddr_text::{Opening, ReportLine, Stop, open_job, put};
+use ddr_text::{Next, Opening, ReportLine, ReportReader, Stop, open_job, put};
 use speed_bin::Header;
 use std::alloc::Global;
 

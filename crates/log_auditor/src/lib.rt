@@ -2,10 +2,11 @@
 #![tactic(auto)]
 
 mod audit_loop;
+#[cfg(test)]
+mod audit_tests;
 mod auditor;
 mod finding;
 mod judge;
-mod report_reader;
 mod rules;
 #[cfg(test)]
 mod tests;
@@ -14,5 +15,4 @@ mod verdict;
 pub use audit_loop::audit;
 pub use auditor::Auditor;
 pub use finding::put_broken;
-pub use report_reader::{Next, ReportReader, Stage};
 pub use verdict::{Rule, Verdict};

@@ -16,6 +16,7 @@ mod tests;
 mod turn;
 
 pub use controller::Controller;
+pub use requests::{Kind, Request, RequestId};
 pub use turn::Turn;
 
 /// A clock of the bus, counted from 0.

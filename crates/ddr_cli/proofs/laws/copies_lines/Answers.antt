@@ -1,5 +1,5 @@
 use Rattle.speed_bin.specs.Header.{shape_of}
-use Rattle.log_auditor.specs.declared.report_reader.Stage.TheVariants.{Body}
+use Rattle.ddr_text.specs.declared.report_reader.Stage.TheVariants.{Body}
 use Rattle.ddr_cli.proofs.Copied.{copied-bytes}
 use Rattle.ddr_cli.proofs.laws.copies_lines.Goals as goal
 

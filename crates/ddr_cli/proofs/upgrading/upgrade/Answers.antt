@@ -4,7 +4,7 @@ use Rattle.ddr_io.specs.declared.status.Status.{Status}
 use Rattle.ddr_text.specs.Apart.{IsApart, IsApartAnswer}
 use Rattle.ddr_text.specs.Outcome.{AnswersAs}
 use Rattle.ddr_text.specs.declared.opening.Apart.TheVariants.{Accepted}
-use Rattle.log_auditor.specs.Reading.{Place}
+use Rattle.ddr_text.specs.ReportReading.{Place}
 use Rattle.ddr_cli.specs.Upgraded.{IsUpgraded}
 use Rattle.ddr_cli.proofs.UpgradeLemmas.{apart_at, upgrades-accepted, upgrades-cut, upgrades-nothing, upgrades-refused}
 use Rattle.ddr_cli.proofs.upgrading.upgrade.Goals as goal

@@ -1,6 +1,6 @@
 use Rattle.std.proofs.Common.{subst}
-use Rattle.ddr_text.specs.Front.{IsFront}
-use Rattle.ddr_text.proofs.Parted.{judged-apart}
+use Rattle.ddr_text.specs.Front.{HeadsAgain, IsFront}
+use Rattle.ddr_text.proofs.Parted.{judged-again, judged-apart}
 use Rattle.ddr_text.proofs.OpeningLines.{taken-front}
 use Rattle.ddr_text.proofs.opening.open_apart.Goals as goal
 
@@ -11,3 +11,7 @@ returns-in-Text-clause-opening g c =
 pub returns-in-Text-clause-taken : goal.returns-in-Text-clause-taken
 returns-in-Text-clause-taken g c =
     taken-front _ _ c.in-Text.text c.in-Text.separator c.in-Text.version c.judge.result (subst (IsFront _ _) c.in-Text.is c.in_ok-text.ensures.front)
+
+pub returns-in-Text-clause-again : goal.returns-in-Text-clause-again
+returns-in-Text-clause-again g c =
+    judged-again c.in-Text.text c.in-Text.separator c.in-Text.version c.judge.result (subst HeadsAgain c.in-Text.is c.in_ok-text.ensures.again) c.judge.ensures.judged

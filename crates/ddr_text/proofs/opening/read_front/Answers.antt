@@ -5,7 +5,7 @@ use Rattle.ddr_text.specs.Opening.{with_feed, is_large}
 use Rattle.ddr_text.specs.Seen.{seen_role}
 use Rattle.ddr_text.specs.declared.reason.Reason.TheVariants.{FaultySeparator, HeaderTooLong}
 use Rattle.ddr_text.specs.Separator.{Ends, Faulty, Text, role_of_line}
-use Rattle.ddr_text.proofs.OpeningLines.{taken-start, continues-none, before-start, before-line, unopened, found_separator, faulty, too_much, continues-line, too_long, at_end, unended, within, taken-line}
+use Rattle.ddr_text.proofs.OpeningLines.{taken-start, continues-none, before-start, before-line, unopened, found_separator, heads-again, faulty, too_much, continues-line, too_long, at_end, unended, within, taken-line}
 use Rattle.ddr_text.proofs.opening.read_front.Goals as goal
 
 pub returns-in_err-push_line-in-Ends-clause-taken : goal.returns-in_err-push_line-in-Ends-clause-taken
@@ -25,6 +25,14 @@ returns-in-Ends-clause-reason g c =
     let is : role_of_line c.next_line.new.self.line ≡ Ends c.in-Ends.version = ap role_of_line (sym c.line-line.ensures) ∙ sym c.role_of.ensures ∙ ap seen_role c.in-Ends.is in
     let whole : c.push_line.new.self ≡ with_feed c.next_line.new.self.line = c.in_ok-push_line-in-Ends.ensures ∙ ap (λ l. l ++ with_feed c.line-line.result.now) c.new-separator.ensures ∙ ap with_feed c.line-line.ensures in
     (c.next_line.new.self.line, whole, is)
+
+pub returns-in-Ends-clause-again : goal.returns-in-Ends-clause-again
+returns-in-Ends-clause-again g c =
+    let held = c.loop-reader.invariant in
+    let next = c.in-Text.ensures.found held.going_on in
+    let is : role_of_line c.next_line.new.self.line ≡ Ends c.in-Ends.version = ap role_of_line (sym c.line-line.ensures) ∙ sym c.role_of.ensures ∙ ap seen_role c.in-Ends.is in
+    let whole : c.push_line.new.self ≡ with_feed c.next_line.new.self.line = c.in_ok-push_line-in-Ends.ensures ∙ ap (λ l. l ++ with_feed c.line-line.result.now) c.new-separator.ensures ∙ ap with_feed c.line-line.ensures in
+    heads-again c.loop-reader.text c.next_line.new.self.line c.push_line.new.self c.in-Ends.version whole held.before next.1 next.0 is
 
 pub returns-in-Faulty-clause-front : goal.returns-in-Faulty-clause-front
 returns-in-Faulty-clause-front g c =

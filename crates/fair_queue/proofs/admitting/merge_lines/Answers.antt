@@ -1,7 +1,7 @@
 use Rattle.std.proofs.Common.{◌∙◌, refl, subst, OnOk, IfErr}
-use Rattle.ddr_io.specs.Line.{next_bytes}
 use Rattle.ddr_io.specs.Sink.{AppendsPrefix}
 use Rattle.std.specs.Io.KnownBytes.{Appends}
+use Rattle.fair_queue.specs.Reading.{unread}
 use Rattle.fair_queue.specs.Merged.{ending}
 use Rattle.fair_queue.proofs.Ending.{cut-end, merges-end, reads-end}
 use Rattle.ddr_text.proofs.Prefixes.{if_err, if_err-to, on_ok-to}
@@ -11,7 +11,7 @@ use Rattle.fair_queue.proofs.admitting.merge_lines.Goals as goal
 
 pub rounds-init : goal.rounds-init
 rounds-init g c =
-    let start = next_bytes c.args.lines.now.reader.held (g.S.Source.left c.args.source.now) in
+    let start = unread c.args.lines.now (g.S.Source.left c.args.source.now) in
     record {
       merged = merging-first c.args.cap start c.args.queues.now c.args.lines.now (g.K.Sink.written c.args.sink.now) c.requires.queues c.requires.lines;
       settled = settled-first c.args.queues.now c.args.lines.now c.requires.queues c.requires.lines;
@@ -23,7 +23,7 @@ rounds-init g c =
 pub returns-in_err-fill-clause-cut : goal.returns-in_err-fill-clause-cut
 returns-in_err-fill-clause-cut g c =
     let i = c.rounds.invariant in
-    if_err _ _ (cut-here c.args.cap c.rounds.count (next_bytes c.args.lines.now.reader.held (g.S.Source.left c.args.source.now)) (next_bytes c.rounds.lines.reader.held (g.S.Source.left c.rounds.source)) c.rounds.queues c.rounds.lines (g.K.Sink.written c.args.sink.now) (g.K.Sink.written c.rounds.sink) i.merged)
+    if_err _ _ (cut-here c.args.cap c.rounds.count (unread c.args.lines.now (g.S.Source.left c.args.source.now)) (unread c.rounds.lines (g.S.Source.left c.rounds.source)) c.rounds.queues c.rounds.lines (g.K.Sink.written c.args.sink.now) (g.K.Sink.written c.rounds.sink) i.merged i.ended)
 
 pub rounds-smaller : goal.rounds-smaller
 rounds-smaller g c =
@@ -34,9 +34,9 @@ rounds-smaller g c =
 pub rounds-preserved : goal.rounds-preserved
 rounds-preserved g c =
     let i = c.rounds.invariant in
-    let start = next_bytes c.args.lines.now.reader.held (g.S.Source.left c.args.source.now) in
-    let now = next_bytes c.rounds.lines.reader.held (g.S.Source.left c.rounds.source) in
-    let later = next_bytes c.fill.new.lines.reader.held (g.S.Source.left c.fill.new.source) in
+    let start = unread c.args.lines.now (g.S.Source.left c.args.source.now) in
+    let now = unread c.rounds.lines (g.S.Source.left c.rounds.source) in
+    let later = unread c.fill.new.lines (g.S.Source.left c.fill.new.source) in
     let s = settled-filled c.rounds.count c.rounds.queues c.fill.new.queues c.rounds.lines c.fill.new.lines i.settled c.in_ok-fill.ensures.queues c.in_ok-fill.ensures.steady c.in_ok-fill.ensures.few in
     let f = merging-filled c.args.cap c.rounds.count start now later c.rounds.queues c.fill.new.queues c.rounds.lines c.fill.new.lines (g.K.Sink.written c.args.sink.now) (g.K.Sink.written c.rounds.sink) i.merged i.settled.four c.in_ok-fill.ensures.filled in
     let e = ends-filled c.args.cap c.rounds.count start now later c.rounds.queues c.rounds.lines c.fill.new.lines (g.K.Sink.written c.args.sink.now) (g.K.Sink.written c.rounds.sink) i.merged i.ended c.in_ok-fill.ensures.ended in
@@ -52,45 +52,48 @@ rounds-preserved g c =
 pub returns-in_err-count-in-Some-clause-cut : goal.returns-in_err-count-in-Some-clause-cut
 returns-in_err-count-in-Some-clause-cut g c =
     let i = c.rounds.invariant in
-    let start = next_bytes c.args.lines.now.reader.held (g.S.Source.left c.args.source.now) in
-    let now = next_bytes c.rounds.lines.reader.held (g.S.Source.left c.rounds.source) in
-    let later = next_bytes c.fill.new.lines.reader.held (g.S.Source.left c.fill.new.source) in
+    let start = unread c.args.lines.now (g.S.Source.left c.args.source.now) in
+    let now = unread c.rounds.lines (g.S.Source.left c.rounds.source) in
+    let later = unread c.fill.new.lines (g.S.Source.left c.fill.new.source) in
     let s = settled-filled c.rounds.count c.rounds.queues c.fill.new.queues c.rounds.lines c.fill.new.lines i.settled c.in_ok-fill.ensures.queues c.in_ok-fill.ensures.steady c.in_ok-fill.ensures.few in
     let f = merging-filled c.args.cap c.rounds.count start now later c.rounds.queues c.fill.new.queues c.rounds.lines c.fill.new.lines (g.K.Sink.written c.args.sink.now) (g.K.Sink.written c.rounds.sink) i.merged i.settled.four c.in_ok-fill.ensures.filled in
+    let e = ends-filled c.args.cap c.rounds.count start now later c.rounds.queues c.rounds.lines c.fill.new.lines (g.K.Sink.written c.args.sink.now) (g.K.Sink.written c.rounds.sink) i.merged i.ended c.in_ok-fill.ensures.ended in
     if_err _ _ (cut-next c.args.cap c.rounds.count start later c.fill.new.queues c.admit.new.self c.fill.new.lines (g.K.Sink.written c.args.sink.now) (g.K.Sink.written c.rounds.sink) (g.K.Sink.written c.put_rest.new.sink) c.in-Some.rest
-    f s.four s.turn c.in-Some.ensures c.in_err-count-in-Some.ensures.cut)
+    f e s.four s.turn c.in-Some.ensures c.in_err-count-in-Some.ensures.cut)
 
 pub returns-in-None-clause-whole : goal.returns-in-None-clause-whole
 returns-in-None-clause-whole g c =
     let i = c.rounds.invariant in
-    let start = next_bytes c.args.lines.now.reader.held (g.S.Source.left c.args.source.now) in
-    let now = next_bytes c.rounds.lines.reader.held (g.S.Source.left c.rounds.source) in
-    let later = next_bytes c.fill.new.lines.reader.held (g.S.Source.left c.fill.new.source) in
+    let start = unread c.args.lines.now (g.S.Source.left c.args.source.now) in
+    let now = unread c.rounds.lines (g.S.Source.left c.rounds.source) in
+    let later = unread c.fill.new.lines (g.S.Source.left c.fill.new.source) in
     let s = settled-filled c.rounds.count c.rounds.queues c.fill.new.queues c.rounds.lines c.fill.new.lines i.settled c.in_ok-fill.ensures.queues c.in_ok-fill.ensures.steady c.in_ok-fill.ensures.few in
     let f = merging-filled c.args.cap c.rounds.count start now later c.rounds.queues c.fill.new.queues c.rounds.lines c.fill.new.lines (g.K.Sink.written c.args.sink.now) (g.K.Sink.written c.rounds.sink) i.merged i.settled.four c.in_ok-fill.ensures.filled in
+    let e = ends-filled c.args.cap c.rounds.count start now later c.rounds.queues c.rounds.lines c.fill.new.lines (g.K.Sink.written c.args.sink.now) (g.K.Sink.written c.rounds.sink) i.merged i.ended c.in_ok-fill.ensures.ended in
     on_ok-to c.put_ending.result _ _
-    (merges-end c.args.cap c.rounds.count start later c.fill.new.queues c.admit.new.self c.fill.new.lines (g.K.Sink.written c.args.sink.now) (g.K.Sink.written c.rounds.sink) (g.K.Sink.written c.put_ending.new.sink) f s.turn c.in_ok-fill.ensures.stopped c.in-None.ensures)
+    (merges-end c.args.cap c.rounds.count start later c.fill.new.queues c.admit.new.self c.fill.new.lines (g.K.Sink.written c.args.sink.now) (g.K.Sink.written c.rounds.sink) (g.K.Sink.written c.put_ending.new.sink) f e s.turn c.in_ok-fill.ensures.stopped c.in-None.ensures)
     (subst (λ b. OnOk c.put_ending.result (Appends (g.K.Sink.written c.rounds.sink) (g.K.Sink.written c.put_ending.new.sink) (ending b))) c.is_bad.ensures c.put_ending.ensures.whole)
 
 pub returns-in-None-clause-used_up : goal.returns-in-None-clause-used_up
 returns-in-None-clause-used_up g c =
     let i = c.rounds.invariant in
-    let start = next_bytes c.args.lines.now.reader.held (g.S.Source.left c.args.source.now) in
-    let now = next_bytes c.rounds.lines.reader.held (g.S.Source.left c.rounds.source) in
-    let later = next_bytes c.fill.new.lines.reader.held (g.S.Source.left c.fill.new.source) in
+    let start = unread c.args.lines.now (g.S.Source.left c.args.source.now) in
+    let now = unread c.rounds.lines (g.S.Source.left c.rounds.source) in
+    let later = unread c.fill.new.lines (g.S.Source.left c.fill.new.source) in
     let s = settled-filled c.rounds.count c.rounds.queues c.fill.new.queues c.rounds.lines c.fill.new.lines i.settled c.in_ok-fill.ensures.queues c.in_ok-fill.ensures.steady c.in_ok-fill.ensures.few in
     let f = merging-filled c.args.cap c.rounds.count start now later c.rounds.queues c.fill.new.queues c.rounds.lines c.fill.new.lines (g.K.Sink.written c.args.sink.now) (g.K.Sink.written c.rounds.sink) i.merged i.settled.four c.in_ok-fill.ensures.filled in
     let e = ends-filled c.args.cap c.rounds.count start now later c.rounds.queues c.rounds.lines c.fill.new.lines (g.K.Sink.written c.args.sink.now) (g.K.Sink.written c.rounds.sink) i.merged i.ended c.in_ok-fill.ensures.ended in
-    on_ok c.put_ending.result _ (reads-end c.args.cap c.rounds.count start later c.fill.new.queues c.admit.new.self c.fill.new.lines (g.K.Sink.written c.args.sink.now) (g.K.Sink.written c.rounds.sink) c.fill.new.lines.reader.held (g.S.Source.left c.fill.new.source) f s.turn c.in_ok-fill.ensures.stopped c.in-None.ensures e)
+    on_ok c.put_ending.result _ (reads-end c.args.cap c.rounds.count start (g.S.Source.left c.fill.new.source) c.fill.new.queues c.admit.new.self c.fill.new.lines (g.K.Sink.written c.args.sink.now) (g.K.Sink.written c.rounds.sink) f e s.turn c.in_ok-fill.ensures.stopped c.in-None.ensures)
 
 pub returns-in-None-clause-cut : goal.returns-in-None-clause-cut
 returns-in-None-clause-cut g c =
     let i = c.rounds.invariant in
-    let start = next_bytes c.args.lines.now.reader.held (g.S.Source.left c.args.source.now) in
-    let now = next_bytes c.rounds.lines.reader.held (g.S.Source.left c.rounds.source) in
-    let later = next_bytes c.fill.new.lines.reader.held (g.S.Source.left c.fill.new.source) in
+    let start = unread c.args.lines.now (g.S.Source.left c.args.source.now) in
+    let now = unread c.rounds.lines (g.S.Source.left c.rounds.source) in
+    let later = unread c.fill.new.lines (g.S.Source.left c.fill.new.source) in
     let s = settled-filled c.rounds.count c.rounds.queues c.fill.new.queues c.rounds.lines c.fill.new.lines i.settled c.in_ok-fill.ensures.queues c.in_ok-fill.ensures.steady c.in_ok-fill.ensures.few in
     let f = merging-filled c.args.cap c.rounds.count start now later c.rounds.queues c.fill.new.queues c.rounds.lines c.fill.new.lines (g.K.Sink.written c.args.sink.now) (g.K.Sink.written c.rounds.sink) i.merged i.settled.four c.in_ok-fill.ensures.filled in
+    let e = ends-filled c.args.cap c.rounds.count start now later c.rounds.queues c.rounds.lines c.fill.new.lines (g.K.Sink.written c.args.sink.now) (g.K.Sink.written c.rounds.sink) i.merged i.ended c.in_ok-fill.ensures.ended in
     if_err-to c.put_ending.result _ _
-    (cut-end c.args.cap c.rounds.count start later c.fill.new.queues c.admit.new.self c.fill.new.lines (g.K.Sink.written c.args.sink.now) (g.K.Sink.written c.rounds.sink) (g.K.Sink.written c.put_ending.new.sink) f s.turn c.in_ok-fill.ensures.stopped c.in-None.ensures)
+    (cut-end c.args.cap c.rounds.count start later c.fill.new.queues c.admit.new.self c.fill.new.lines (g.K.Sink.written c.args.sink.now) (g.K.Sink.written c.rounds.sink) (g.K.Sink.written c.put_ending.new.sink) f e s.turn c.in_ok-fill.ensures.stopped c.in-None.ensures)
     (subst (λ b. IfErr c.put_ending.result (λ stop. AppendsPrefix (g.K.Sink.written c.rounds.sink) (g.K.Sink.written c.put_ending.new.sink) (ending b))) c.is_bad.ensures c.put_ending.ensures.cut)

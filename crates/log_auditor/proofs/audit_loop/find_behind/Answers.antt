@@ -2,9 +2,9 @@ use Rattle.std.proofs.Common.{◌≡◌, ◌∙◌, ℕ, ◌++◌, ◌∷◌, []
 use Rattle.command_words.specs.Geometry.{Shape}
 use Rattle.ddr_io.specs.Faults.{Rose}
 use Rattle.ddr_io.specs.Line.{next_bytes}
-use Rattle.log_auditor.specs.Reading.{Place}
-use Rattle.log_auditor.specs.declared.report_reader.Next.TheVariants.{Line, Failed}
-use Rattle.log_auditor.specs.declared.report_reader.Stage.TheVariants.{Body}
+use Rattle.ddr_text.specs.ReportReading.{Place}
+use Rattle.ddr_text.specs.declared.report_reader.Next.TheVariants.{Line, Failed}
+use Rattle.ddr_text.specs.declared.report_reader.Stage.TheVariants.{Body}
 use Rattle.log_auditor.proofs.Readings.{fewer_left, first_reads, may_judge, next_reads, reads_found, reads_all, reads_refused}
 use Rattle.log_auditor.proofs.audit_loop.find_behind.Goals as goal
 

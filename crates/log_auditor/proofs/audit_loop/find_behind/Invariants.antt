@@ -2,7 +2,7 @@ use Rattle.std.proofs.Common.{◌≡◌, ℕ, ◌+◌, ◌-◌, List}
 use Rattle.ddr_io.specs.Line.{next_bytes}
 use Rattle.ddr_text.specs.declared.lines.ReportLine.{ReportLine}
 use Rattle.log_auditor.specs.Progress.{Reads}
-use Rattle.log_auditor.specs.declared.report_reader.TheConstants.{MOST_LINES}
+use Rattle.ddr_text.specs.ReportReading.{most_lines}
 use Rattle.log_auditor.proofs.audit_loop.find_behind.Given as goal
 
 abbrev pub invariant-loop-line : goal.invariant-loop-line
@@ -12,4 +12,4 @@ invariant-loop-line g l = record {
 }
 
 abbrev pub decreases-loop-line : goal.decreases-loop-line
-decreases-loop-line g l = MOST_LINES + 1 - l.lines.number
+decreases-loop-line g l = most_lines + 1 - l.lines.number

@@ -1,7 +1,7 @@
-use Rattle.std.proofs.Common.{ℕ, List, ◌∙◌, BTreeMap, ap, refl}
+use Rattle.std.proofs.Common.{ℕ, ◌∙◌, BTreeMap, ap, refl}
 use Rattle.std.specs.Ordering.{nat_cmp}
 use Rattle.std.specs.BTreeMap.{get}
-use Rattle.ondie_ecc.specs.declared.codeword.Codeword.{Codeword}
+use Rattle.error_scrub.specs.declared.stored.Stored.{Stored}
 use Rattle.error_scrub.specs.Cells.{cells_shape, stored, word_in}
 use Rattle.error_scrub.proofs.ZeroWords.{scrubbed-zero, zero-not_fixed, zero-not_lost, zero_at}
 use Rattle.error_scrub.proofs.cells.Cells.scrub_line.Goals as goal
@@ -15,9 +15,9 @@ returns-in-None-clause-line c =
       inside = c.requires;
       shape = refl;
       changed = λ device near.
-          ap (λ (k : BTreeMap ℕ (List Codeword)). word_in (get nat_cmp k c.args.line) device) same
+          ap (λ (k : BTreeMap ℕ Stored). word_in (get nat_cmp k c.args.line) device) same
           ∙ scrubbed-zero c.args.self.now c.args.line device none;
-      others = λ other device apart. ap (λ (k : BTreeMap ℕ (List Codeword)). word_in (get nat_cmp k other) device) same;
+      others = λ other device apart. ap (λ (k : BTreeMap ℕ Stored). word_in (get nat_cmp k other) device) same;
     }
 
 pub returns-in-None-clause-fixed : goal.returns-in-None-clause-fixed

@@ -4,12 +4,12 @@ ghost use Rattle.ddr_io.specs.Faults.{Rose};
 ghost use Rattle.ddr_io.specs.Line.{next_bytes};
 ghost use Rattle.ddr_text.specs.AcceptedReport.{IsReportLine};
 ghost use Rattle.ddr_text.specs.Reason.{HasNumber, number_of};
+ghost use Rattle.ddr_text.specs.ReportReading.{Judges, StepsOn, IsStep, judged_line, is_whole, most_lines, placed, stage_after};
 ghost use Rattle.ddr_text.specs.declared.lines.ReportLine.{ReportLine as AnyReportLine};
-ghost use Rattle.log_auditor.specs.Reading.{Judges, StepsOn, IsStep, judged_line, is_whole, placed, stage_after};
 
+use crate::{Reason, ReportLine, laws, read_report_line, report_lines};
 use command_words::Geometry;
 use ddr_io::{Line, LineReader, Source};
-use ddr_text::{Reason, ReportLine, read_report_line, report_lines};
 use std::marker::Model;
 
 // A report has at most so many lines behind its opening.
@@ -54,14 +54,13 @@ pub struct ReportReader {
 
 impl Model for ReportReader {
     ghost use Rattle.std.specs.Prelude.{◌+◌, ◌≤◌};
-    ghost use Rattle.log_auditor.specs.Reading.{Place};
-    ghost use Rattle.log_auditor.specs.declared.report_reader.TheConstants.{MOST_LINES};
+    ghost use Rattle.ddr_text.specs.ReportReading.{Place, most_lines};
 
     ghost Value = { Place };
 
     ghost view = { λ r. record { reader = r.reader; shape = r.geometry; stage = r.stage; number = r.number } };
 
-    ghost invariant = { λ r. r.number ≤ MOST_LINES + 1 };
+    ghost invariant = { λ r. r.number ≤ most_lines + 1 };
 }
 
 impl ReportReader {
@@ -80,7 +79,7 @@ impl ReportReader {
     /// The number of the line that comes next, counted from 1.
     pub fn number(&self) -> u64
         ensures number { result ≡ self.now.number }
-        ensures most { result ≤ MOST_LINES + 1 }
+        ensures most { result ≤ most_lines + 1 }
     {
         self.number
     }
@@ -102,7 +101,7 @@ impl ReportReader {
         // Any other answer leaves the count: no failed read is tried again.
         ensures kept { result ≢ Next.Failed → S.faults source.new ≡ S.faults source.old }
     {
-        ddr_text::laws::lines_are_parts();
+        laws::lines_are_parts();
         match self.reader.next_line(source) {
             Line::Text => self.judge_line(),
             Line::TooLong => self.refuse_rest(Reason::LineTooLong),

@@ -1,9 +1,9 @@
 use Rattle.std.proofs.Common.{◌≡◌, ◌∙◌, ap, refl, sym, subst}
 use Rattle.ddr_io.specs.Line.{next_bytes}
 use Rattle.ddr_io.specs.declared.line_reader.Line.TheVariants.{Text}
-use Rattle.log_auditor.specs.Reading.{IsStep, Place}
-use Rattle.log_auditor.proofs.Parts.{step_text, step_long, step_unended, step_end, steps_on}
-use Rattle.log_auditor.proofs.report_reader.ReportReader.next.Goals as goal
+use Rattle.ddr_text.specs.ReportReading.{IsStep, Place}
+use Rattle.ddr_text.proofs.ReportReading.{step_text, step_long, step_unended, step_end, steps_on}
+use Rattle.ddr_text.proofs.report_reader.ReportReader.next.Goals as goal
 
 pub returns-in-Text-clause-step : goal.returns-in-Text-clause-step
 returns-in-Text-clause-step g c =

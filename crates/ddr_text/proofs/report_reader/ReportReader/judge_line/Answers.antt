@@ -1,7 +1,7 @@
 use Rattle.std.proofs.Common.{◌∙◌, ◌<◌, length, Ok, Err, ap, refl, sym}
 use Rattle.ddr_text.specs.ReportGrammar.{report_line_of}
-use Rattle.log_auditor.proofs.Parts.{judges_many, judges_read}
-use Rattle.log_auditor.proofs.report_reader.ReportReader.judge_line.Goals as goal
+use Rattle.ddr_text.proofs.ReportReading.{judges_many, judges_read}
+use Rattle.ddr_text.proofs.report_reader.ReportReader.judge_line.Goals as goal
 
 pub returns-then-self-gt-MOST_LINES-clause-judged : goal.returns-then-self-gt-MOST_LINES-clause-judged
 returns-then-self-gt-MOST_LINES-clause-judged c = rw (c.refuse.ensures, ← c.self.view_is) (judges_many _ c.if-self-gt-MOST_LINES.true)

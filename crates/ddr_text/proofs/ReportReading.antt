@@ -11,11 +11,11 @@ use Rattle.ddr_text.specs.AcceptedReport.{IsReportLine}
 use Rattle.ddr_text.specs.ReportGrammar.{report_line_of}
 use Rattle.ddr_text.specs.declared.lines.LineFault.{LineFault}
 use Rattle.ddr_text.specs.declared.lines.ReportLine.{ReportLine}
-use Rattle.log_auditor.specs.Reading.{IsStep, Judges, Lines, Place, Placed, StepsOn, behind_line, in_place, placed, stage_after, judged_line, judged_rest, is_whole, lines_in, lines_left, refusal_at, stage_behind, with_line}
-use Rattle.log_auditor.specs.declared.report_reader.Next.{Next}
-use Rattle.log_auditor.specs.declared.report_reader.Next.TheVariants.{Line as LineNext, End as EndNext, Refused as RefusedNext}
-use Rattle.log_auditor.specs.declared.report_reader.Stage.{Stage}
-use Rattle.log_auditor.specs.declared.report_reader.TheConstants.{MOST_LINES}
+use Rattle.ddr_text.specs.ReportReading.{IsStep, Judges, Lines, Place, Placed, StepsOn, behind_line, in_place, placed, stage_after, judged_line, judged_rest, is_whole, lines_in, lines_left, refusal_at, stage_behind, with_line}
+use Rattle.ddr_text.specs.declared.report_reader.Next.{Next}
+use Rattle.ddr_text.specs.declared.report_reader.Next.TheVariants.{Line as LineNext, End as EndNext, Refused as RefusedNext}
+use Rattle.ddr_text.specs.declared.report_reader.Stage.{Stage}
+use Rattle.ddr_text.specs.declared.report_reader.TheConstants.{MOST_LINES}
 
 -- ---- The next line of a report
 

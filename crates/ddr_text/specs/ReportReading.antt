@@ -1,5 +1,5 @@
 -- How the lines of a report are read, behind its opening. `docs/FORMATS.md` has the same in words.
-use Rattle.std.specs.Prelude.{ℕ, suc, ◌≡◌, ◌+◌, ◌≤◌, ⊤, nat_lt, Bool, true, false, if◌then◌else◌, List, [], ◌∷◌, Some, None, Result, Ok, Err}
+use Rattle.std.specs.Prelude.{ℕ, suc, ◌≡◌, ◌+◌, ◌≤◌, ⊤, ⊥, nat_lt, Bool, true, false, if◌then◌else◌, List, [], ◌∷◌, Some, None, Result, Ok, Err}
 use Rattle.std.specs.declared.option.Option.{Option}
 use Rattle.command_words.specs.Geometry.{Shape}
 use Rattle.ddr_io.specs.Reading.{Reading as ReaderOfLines}
@@ -13,10 +13,10 @@ use Rattle.ddr_text.specs.declared.lines.LineFault.{LineFault}
 use Rattle.ddr_text.specs.declared.lines.ReportLine.{ReportLine}
 use Rattle.ddr_text.specs.declared.lines.ReportLine.TheVariants.{Issued, Value, Flip, Stat, End, Refused}
 use Rattle.ddr_text.specs.declared.reason.Reason.TheVariants.{LineOutOfPlace, LineTooLong, LineUnended, NoEndLine, TooManyLines}
-use Rattle.log_auditor.specs.declared.report_reader.Next.{Next}
-use Rattle.log_auditor.specs.declared.report_reader.Next.TheVariants.{Line, End as AtEnd, Refused as Refuses, Failed}
-use Rattle.log_auditor.specs.declared.report_reader.Stage.{Stage}
-use Rattle.log_auditor.specs.declared.report_reader.Stage.TheVariants.{Body, Counts, Ended, Closed}
+use Rattle.ddr_text.specs.declared.report_reader.Next.{Next}
+use Rattle.ddr_text.specs.declared.report_reader.Next.TheVariants.{Line, End as AtEnd, Refused as Refuses, Failed}
+use Rattle.ddr_text.specs.declared.report_reader.Stage.{Stage}
+use Rattle.ddr_text.specs.declared.report_reader.Stage.TheVariants.{Body, Counts, Ended, Closed}
 
 -- ---- Places
 
@@ -104,6 +104,10 @@ lines_in g stage number (rest ∷ []) = record { lines = []; refusal = refusal_a
 lines_in g stage number (text ∷ next ∷ parts) =
     behind_line number (judged_line g stage number text) (lines_in g (stage_behind stage (judged_line g stage number text)) (suc number) (next ∷ parts))
 
+-- the lines behind an opening
+abbrev pub lines_behind : Shape → List ℕ → Lines
+lines_behind g bytes = lines_in g Body 1 (parts_of bytes)
+
 -- ---- A reader
 
 -- what a contract sees of a reader of a report: its reader of lines, the shape of the subchannel, and the stage and the
@@ -117,6 +121,17 @@ pub record Place : Type 0 where
 -- the lines that are left in bytes
 abbrev pub lines_left : Place → List ℕ → Lines
 lines_left it bytes = lines_in it.shape it.stage it.number (parts_of bytes)
+
+-- these lines in front
+abbrev pub with_lines : List ReportLine → Lines → Lines
+with_lines [] rest = rest
+with_lines (line ∷ lines) rest = with_line line (with_lines lines rest)
+
+-- of the lines that bytes at first have, these are read, and then come those that are left
+abbrev pub LeftOf : (List ℕ → Lines) → Option (List ℕ) → List ReportLine → Place → Option (List ℕ) → Type 0
+LeftOf lines_of None lines it left = ⊤
+LeftOf lines_of (Some bytes) lines it None = ⊥
+LeftOf lines_of (Some bytes) lines it (Some left) = lines_of bytes ≡ with_lines lines (lines_left it left)
 
 -- behind a line the reader goes on
 pub record StepsOn (old new : Place) (line : ReportLine) : Type 0 where
