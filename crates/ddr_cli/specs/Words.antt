@@ -24,6 +24,14 @@ IsShow words = map string_bytes words ≡ codes "show" ∷ []
 abbrev pub IsUpgrade : List (String Global) → Type 0
 IsUpgrade words = map string_bytes words ≡ codes "upgrade" ∷ []
 
+-- the one word is `exec`
+abbrev pub IsExec : List (String Global) → Type 0
+IsExec words = map string_bytes words ≡ codes "exec" ∷ []
+
+-- the words ask for the rules of a log
+abbrev pub AskForRules : List (String Global) → Type 0
+AskForRules words = IsAudit words ⊎ IsExec words
+
 -- the words are `gen`, and then two that spell the seed and the number of requests
 abbrev pub IsGen : List (String Global) → ℕ → ℕ → Type 0
 IsGen words seed requests = (rest : List (List ℕ)) × (map string_bytes words ≡ codes "gen" ∷ rest) × (seed_and_requests rest ≡ Some (seed, requests))
@@ -73,6 +81,7 @@ IsOfForm words (form.Gen seed requests) = IsGen words seed requests
 IsOfForm words (form.GenRun seed requests) = IsGenRun words seed requests
 IsOfForm words (form.Ports cap) = IsPorts words cap
 IsOfForm words (form.Merge cap) = IsMerge words cap
+IsOfForm words form.Exec = IsExec words
 
 -- the words are of one of the forms
 abbrev pub IsListed : List (String Global) → Type 0

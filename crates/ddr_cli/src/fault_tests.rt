@@ -73,6 +73,15 @@ fn ports_of(alloc: Global, job: &str) -> Result<String, Fail> {
     Ok(lines)
 }
 
+// A script: a line is written, some of its bits are turned, and it is read.
+fn small_script(alloc: Global) -> Result<String, Fail> {
+    let (_, data) = TRACE.split_once("W 0 ").unwrap_or(("", ""));
+    let (data, _) = data.split_once('\n').unwrap_or(("", ""));
+    Ok(
+        format!(in alloc; "{OPENING}{REGISTERS}C 32 0000 0000\nC 35 002d 0c00\nB {data}\nF 0 0 0\nC 51 003d 0400\nC 54 000b\nE 55\n")?,
+    )
+}
+
 fn report_of(alloc: Global, job: &[u8]) -> Result<Vec<u8>, Fail> {
     let (_, report) = run_with(alloc, &["replay"], job, (0, 0))?;
     Ok(report.bytes().to_vec(alloc)?)
@@ -198,6 +207,12 @@ fn each_read_of_four_ports_fails(rt: HostRuntime) -> Result<(), Fail> {
     Ok(())
 }
 
+#[test]
+fn each_read_of_a_script_fails(rt: HostRuntime) -> Result<(), Fail> {
+    let script = small_script(rt.alloc())?;
+    fails_at_each_read(&rt, rt.alloc(), &["exec"], script.as_bytes())
+}
+
 // ---- Writes
 
 // Each write fails in turn: the run says so, and a prefix of what it writes undisturbed was written.
@@ -255,4 +270,10 @@ fn each_write_of_four_ports_fails(rt: HostRuntime) -> Result<(), Fail> {
         }
     }
     Ok(())
+}
+
+#[test]
+fn each_write_of_a_script_fails(rt: HostRuntime) -> Result<(), Fail> {
+    let script = small_script(rt.alloc())?;
+    fails_at_each_write(&rt, rt.alloc(), &["exec"], script.as_bytes())
 }

@@ -26,6 +26,8 @@ pub enum Form {
     Ports(u32),
     /// `merge` with a cap.
     Merge(u32),
+    /// `exec`.
+    Exec,
 }
 
 /// The form of the words. `None` exactly where they are of none.
@@ -40,6 +42,8 @@ pub fn form_of(words: &[String]) -> Option<Form>
         Some(Form::Show)
     } else if is_word(words, "upgrade") {
         Some(Form::Upgrade)
+    } else if is_word(words, "exec") {
+        Some(Form::Exec)
     } else {
         longer_form(words)
     }

@@ -1,9 +1,11 @@
 //! The program: it reads a job or a report on standard input, and writes a report, a verdict or its commands on standard
-//! output; or it writes a report in version 2, or makes a job.
+//! output; or it writes a report in version 2, runs a script, or makes a job.
 #![tactic(auto)]
 
 mod at_end;
 mod command_line;
+#[cfg(test)]
+mod exec_tests;
 mod fault;
 #[cfg(test)]
 mod fault_tests;

@@ -11,8 +11,11 @@ ghost use Rattle.made_jobs.specs.Writing.{Writes};
 ghost use Rattle.ddr_cli.specs.Made.{MadeAnswers};
 ghost use Rattle.ddr_cli.specs.Shown.{ShowAnswers};
 ghost use Rattle.ddr_cli.specs.Upgraded.{UpgradeAnswers};
-ghost use Rattle.ddr_cli.specs.Words.{AskForPorts, IsAudit, IsGen, IsGenRun, IsListed, IsMerge, IsPorts, IsReplay, IsShow, IsUpgrade, Makes};
+ghost use Rattle.ddr_cli.specs.Words.{AskForPorts, AskForRules, IsAudit, IsExec, IsGen, IsGenRun, IsListed, IsMerge, IsPorts, IsReplay, IsShow, IsUpgrade, Makes};
 ghost use Rattle.ddr_text.specs.Opening.{Accepts, opening_of};
+ghost use Rattle.ddr_text.specs.Outcome.{AnswersAs};
+ghost use Rattle.device_exec.specs.Executed.{IsExecuted};
+ghost use Rattle.device_exec.specs.Promises.{IsFlawless, IsUnblamed, IsWithinBound, JudgesInOrder, ReadsWell};
 ghost use Rattle.fair_queue.specs.Answering.{MergeAnswers};
 ghost use Rattle.fair_queue.specs.Arrivals.{input_of};
 ghost use Rattle.fair_queue.specs.Serving.{PortsAnswers};
@@ -23,6 +26,7 @@ use crate::showing::show;
 use crate::upgrading::upgrade;
 use crate::{Form, form_of};
 use ddr_io::{Sink, Source, Status};
+use device_exec::exec;
 use fair_queue::{merge, ports};
 use log_auditor::audit;
 use made_jobs::write_job;
@@ -76,10 +80,26 @@ pub fn run<S: Source, K: Sink>(
     ensures fair { (h : Header) (bytes text rest : List ℕ) → AskForPorts words.now → S.left source.old ≡ Some bytes → opening_of bytes ≡ Accepts h text rest
         → IsFair (input_of rest).lines }
 
+    // With the word `exec`: what a device makes of the script in the bytes that were read.
+    ensures executed { IsExec words.now → AnswersAs (IsExecuted (S.left source.old)) result (S.left source.old) (S.left source.new) (K.written sink.old) (K.written sink.new) }
+
+    // Whoever made the script: its lines are judged in their order by the rules alone, its reads are those of plain memory where
+    // few bits were turned, and no row has more activations than the bound.
+    ensures exec_judged { (bytes rest text : List ℕ) (h : Header) → IsExec words.now → S.left source.old ≡ Some bytes → opening_of bytes ≡ Accepts h text rest
+        → JudgesInOrder h rest }
+    ensures exec_reads { (bytes rest text : List ℕ) (h : Header) → IsExec words.now → S.left source.old ≡ Some bytes → opening_of bytes ≡ Accepts h text rest
+        → ReadsWell h rest }
+    ensures exec_bounded { (bytes rest text : List ℕ) (h : Header) → IsExec words.now → S.left source.old ≡ Some bytes → opening_of bytes ≡ Accepts h text rest
+        → IsWithinBound h rest }
+
+    // A script with nothing to refuse and no broken rule is neither refused nor broken.
+    ensures exec_complete { (bytes rest text : List ℕ) (h : Header) (clock : ℕ) → IsExec words.now → S.left source.old ≡ Some bytes
+        → opening_of bytes ≡ Accepts h text rest → IsFlawless h rest clock → IsUnblamed result }
+
     // A fault is told where it was counted.
     ensures read { result ≡ Status.ReadFault → Rose (S.faults source.old) (S.faults source.new) }
     ensures write { result ≡ Status.WriteFault → Rose (K.faults sink.old) (K.faults sink.new) }
-    ensures broken { result ≡ Status.Broken → IsAudit words.now }
+    ensures broken { result ≡ Status.Broken → AskForRules words.now }
 
     // No fault is passed over: only a read fault leaves another count of the source, and only a write fault one of the sink.
     ensures reads_kept { result ≢ Status.ReadFault → S.faults source.new ≡ S.faults source.old }
@@ -94,6 +114,7 @@ pub fn run<S: Source, K: Sink>(
         Some(Form::GenRun(seed, requests)) => run_made(alloc, seed, requests, sink),
         Some(Form::Ports(cap)) => ports(alloc, cap, source, sink),
         Some(Form::Merge(cap)) => merge(alloc, cap, source, sink),
+        Some(Form::Exec) => exec(alloc, source, sink),
         None => Status::Usage,
     }
 }

@@ -1,6 +1,6 @@
 //! The run on the streams of the system.
 ghost use Rattle.std.specs.Prelude.{◌≡◌, ◌≢◌, ◌↔◌};
-ghost use Rattle.ddr_cli.specs.Words.{IsAudit, IsListed, Makes};
+ghost use Rattle.ddr_cli.specs.Words.{AskForRules, IsListed, Makes};
 
 use crate::lent_output::{LentOutput, Output, Prompting};
 use crate::{at_end, finish, form_of, run};
@@ -21,7 +21,7 @@ pub fn run_on_streams<R: Read, W: Write>(
     ensures unread { result ≡ Status.Usage → reader.new ≡ reader.old }
     ensures unwritten { result ≡ Status.Usage → writer.new ≡ writer.old }
     ensures made_unread { Makes words.now → reader.new ≡ reader.old }
-    ensures broken { result ≡ Status.Broken → IsAudit words.now }
+    ensures broken { result ≡ Status.Broken → AskForRules words.now }
 {
     match form_of(words) {
         Some(_) => run_buffered(alloc, words, reader, writer),
@@ -39,7 +39,7 @@ fn run_buffered<R: Read, W: Write>(
     requires { IsListed words.now }
     ensures usage { result ≢ Status.Usage }
     ensures made_unread { Makes words.now → reader.new ≡ reader.old }
-    ensures broken { result ≡ Status.Broken → IsAudit words.now }
+    ensures broken { result ≡ Status.Broken → AskForRules words.now }
 {
     let out = match BufWriter::new(alloc, writer) {
         Ok(writer) => RefCell::new(Output {
@@ -64,7 +64,7 @@ fn run_prompting<R: Read, W: Write + Drop>(
     requires { IsListed words.now }
     ensures usage { result ≢ Status.Usage }
     ensures made_unread { Makes words.now → reader.new ≡ reader.old }
-    ensures broken { result ≡ Status.Broken → IsAudit words.now }
+    ensures broken { result ≡ Status.Broken → AskForRules words.now }
 {
     let mut source = RealSource::new(Prompting { reader, out });
     let mut sink = RealSink::new(LentOutput { out });

@@ -160,7 +160,7 @@ fn headers_are_refused(rt: HostRuntime) -> Result<(), Fail> {
 #[test]
 fn other_words(rt: HostRuntime) -> Result<(), Fail> {
     let alloc = rt.alloc();
-    let rows: [&[&str]; 27] = [
+    let rows: [&[&str]; 30] = [
         &[],
         &["replay", "now"],
         &["Replay"],
@@ -188,6 +188,9 @@ fn other_words(rt: HostRuntime) -> Result<(), Fail> {
         &["ports", "2", "2"],
         &["merge", "4294967298"],
         &["2", "merge"],
+        &["exec", "2"],
+        &["Exec"],
+        &["exec", "exec"],
     ];
     for row in rows {
         let words = words_of(alloc, row)?;
@@ -207,7 +210,7 @@ fn faults_are_told(rt: HostRuntime) -> Result<(), Fail> {
     let rows = [
         (
             Status::Usage,
-            "usage: ddr replay | audit | show | gen [run] SEED REQUESTS | upgrade | ports CAP | merge CAP",
+            "usage: ddr replay | audit | show | gen [run] SEED REQUESTS | upgrade | ports CAP | merge CAP | exec",
         ),
         (Status::ReadFault, "read fault"),
         (Status::WriteFault, "write fault"),

@@ -2,7 +2,7 @@ use Rattle.std.proofs.Common.{subst}
 use Rattle.std.specs.Prelude.{codes}
 use Rattle.fair_queue.specs.Answering.{MergeAnswers}
 use Rattle.fair_queue.specs.Serving.{PortsAnswers}
-use Rattle.ddr_cli.specs.declared.form.Form.TheVariants.{Audit, Gen, GenRun, Merge, Ports, Replay, Show, Upgrade}
+use Rattle.ddr_cli.specs.declared.form.Form.TheVariants.{Audit, Exec, Gen, GenRun, Merge, Ports, Replay, Show, Upgrade}
 use Rattle.ddr_cli.proofs.CapWords.{asks_listed, cap_within, same_cap}
 use Rattle.ddr_cli.proofs.MadeWords.{either_way, few_requests}
 use Rattle.ddr_cli.proofs.run.run.Goals as goal
@@ -67,3 +67,15 @@ returns-in-None-clause-upgraded g c = λ is. absurd (c.in-None.ensures (Upgrade,
 
 pub returns-in-Some-Ports-clause-fair : goal.returns-in-Some-Ports-clause-fair
 returns-in-Some-Ports-clause-fair g c = λ h bytes text rest asks left opens. c.ports.ensures.fair h bytes text rest left opens
+
+pub returns-in-None-clause-executed : goal.returns-in-None-clause-executed
+returns-in-None-clause-executed g c = λ is. absurd (c.in-None.ensures (Exec, is))
+
+pub returns-in-None-clause-exec_judged : goal.returns-in-None-clause-exec_judged
+returns-in-None-clause-exec_judged g c = λ bytes rest text h is left opens. absurd (c.in-None.ensures (Exec, is))
+
+pub returns-in-None-clause-exec_reads : goal.returns-in-None-clause-exec_reads
+returns-in-None-clause-exec_reads g c = λ bytes rest text h is left opens. absurd (c.in-None.ensures (Exec, is))
+
+pub returns-in-None-clause-exec_bounded : goal.returns-in-None-clause-exec_bounded
+returns-in-None-clause-exec_bounded g c = λ bytes rest text h is left opens. absurd (c.in-None.ensures (Exec, is))

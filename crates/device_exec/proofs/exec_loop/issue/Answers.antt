@@ -1,0 +1,4 @@
+use Rattle.device_exec.proofs.exec_loop.issue.Goals as goal
+
+pub returns-clause-acts : goal.returns-clause-acts
+returns-clause-acts g c = λ h script stands numbered. c.show_command.ensures.acts h script c.command-checked.new.self numbered (c.command-checked.ensures.judged h script.steps stands)

@@ -1,0 +1,249 @@
+//! A script, from its bytes to what a device makes of it.
+ghost use Rattle.std.specs.Prelude.{ℕ, ◌≡◌, ◌≢◌, List, Option, OnOk, IfErr, Some, []};
+ghost use Rattle.ddr_io.specs.Faults.{Rose};
+ghost use Rattle.ddr_io.specs.Line.{next_bytes};
+ghost use Rattle.ddr_text.specs.AcceptedReport.{IsReportLine};
+ghost use Rattle.ddr_text.specs.declared.lines.ReportLine.{ReportLine as AnyReportLine};
+ghost use Rattle.ddr_text.specs.Opening.{Accepts, opening_of};
+ghost use Rattle.speed_bin.specs.Header.{IsAccepted};
+ghost use Rattle.speed_bin.specs.Log.{Issued};
+ghost use Rattle.speed_bin.specs.declared.header.Header.{Header as AnyHeader};
+ghost use Rattle.device_exec.specs.Executed.{IsExecuted, four_devices};
+ghost use Rattle.ddr_text.specs.Outcome.{AnswersAs};
+ghost use Rattle.device_exec.specs.Promises.{IsFlawless, IsUnblamed, IsWithinBound, JudgesInOrder, ReadsWell};
+ghost use Rattle.device_exec.specs.Running.{Acts, IsAt, IsOpened, IsRunBehind, MayAct, gone_on};
+ghost use Rattle.device_exec.specs.ScriptGrammar.{IsScriptLine};
+ghost use Rattle.device_exec.specs.Scripts.{Ready, Script, Waits, acted};
+ghost use Rattle.device_exec.specs.Standing.{AwaitsBytes, Commands, IsReady, StandsFor, geometry_of};
+ghost use Rattle.ddr_text.specs.Stop.{WriteCause};
+ghost use Rattle.device_exec.specs.declared.checked_device.CheckedDevice.{CheckedDevice as AnyCheckedDevice};
+ghost use Rattle.device_exec.specs.declared.script_line.ScriptLine.{ScriptLine as AnyScriptLine};
+
+use crate::checked_device::{Checked, CheckedDevice};
+use crate::laws;
+use crate::script_line::ScriptLine;
+use crate::script_reader::{Next, ScriptReader};
+use crate::shown::{finish, put_command, tell};
+use command_words::{Command, LineAddr};
+use ddr_io::{Line, LineReader, OutOfMemory, Sink, Source, Status};
+use ddr_text::{HeaderText, Opening, ReportLine, Stop, open_job, put_line, put_opening, refuse};
+use log_auditor::Rule;
+use speed_bin::Header;
+use std::alloc::Global;
+
+/// Runs a script: gives its commands to a device, as long as they break no rule, with the bytes of its WRs and the bits that it
+/// turns, and writes what the device answers, by `docs/FORMATS.md`. The first line that is refused ends it with an X line, and
+/// the first line at which a rule fails with `A broken`. It keeps no list of the lines.
+#[inline(never)]
+pub fn exec<S: Source, K: Sink>(alloc: Global, source: &mut S, sink: &mut K) -> Status
+    ensures answer { AnswersAs (IsExecuted (S.left source.old)) result (S.left source.old) (S.left source.new) (K.written sink.old) (K.written sink.new) }
+    ensures usage { result ≢ Status.Usage }
+
+    // What comes of the script, whoever made it: its lines are judged in their order by the rules alone, its reads are those of
+    // plain memory where few bits were turned, and no row has more activations than the bound.
+    ensures judged { (bytes rest text : List ℕ) (h : AnyHeader) → S.left source.old ≡ Some bytes → opening_of bytes ≡ Accepts h text rest → JudgesInOrder h rest }
+    ensures reads { (bytes rest text : List ℕ) (h : AnyHeader) → S.left source.old ≡ Some bytes → opening_of bytes ≡ Accepts h text rest → ReadsWell h rest }
+    ensures bounded { (bytes rest text : List ℕ) (h : AnyHeader) → S.left source.old ≡ Some bytes → opening_of bytes ≡ Accepts h text rest → IsWithinBound h rest }
+
+    // A script with nothing to refuse and no broken rule is neither refused nor broken.
+    ensures complete { (bytes rest text : List ℕ) (h : AnyHeader) (clock : ℕ) → S.left source.old ≡ Some bytes → opening_of bytes ≡ Accepts h text rest
+        → IsFlawless h rest clock → IsUnblamed result }
+
+    // A fault is told exactly where it was counted.
+    ensures read { result ≡ Status.ReadFault → Rose (S.faults source.old) (S.faults source.new) }
+    ensures write { result ≡ Status.WriteFault → Rose (K.faults sink.old) (K.faults sink.new) }
+    ensures reads_kept { result ≢ Status.ReadFault → S.faults source.new ≡ S.faults source.old }
+    ensures writes_kept { result ≢ Status.WriteFault → K.faults sink.new ≡ K.faults sink.old }
+{
+    ddr_text::laws::opened_header_is_accepted();
+    laws::judges_in_order();
+    laws::reads_last_write();
+    laws::bounds_activations();
+    run_script(alloc, source, sink)
+}
+
+// Opens the script, and runs it.
+fn run_script<S: Source, K: Sink>(alloc: Global, source: &mut S, sink: &mut K) -> Status
+    ensures answer { AnswersAs (IsExecuted (S.left source.old)) result (S.left source.old) (S.left source.new) (K.written sink.old) (K.written sink.new) }
+    ensures usage { result ≢ Status.Usage }
+    ensures read { result ≡ Status.ReadFault → Rose (S.faults source.old) (S.faults source.new) }
+    ensures write { result ≡ Status.WriteFault → Rose (K.faults sink.old) (K.faults sink.new) }
+    ensures reads_kept { result ≢ Status.ReadFault → S.faults source.new ≡ S.faults source.old }
+    ensures writes_kept { result ≢ Status.WriteFault → K.faults sink.new ≡ K.faults sink.old }
+{
+    let mut reader = LineReader::new();
+    match open_job(alloc, &mut reader, source) {
+        Ok(Opening::Accepted(header, text)) => {
+            run_behind(alloc, &header, &text, reader, source, sink)
+        }
+        Ok(Opening::Refused(reason)) => refuse(0, reason, sink),
+        Ok(Opening::Failed) => Status::ReadFault,
+        Err(_) => Status::OutOfMemory,
+    }
+}
+
+// Writes the opening, and runs the lines behind it.
+fn run_behind<S: Source, K: Sink>(
+    alloc: Global,
+    header: &Header,
+    text: &HeaderText,
+    reader: LineReader,
+    source: &mut S,
+    sink: &mut K,
+) -> Status
+    requires accepted { IsAccepted header.now }
+    requires going_on { reader.last ≡ Line.Text }
+    ensures answer { AnswersAs (IsOpened header.now text.now (next_bytes reader.held (S.left source.old))) result (S.left source.old) (S.left source.new) (K.written sink.old) (K.written sink.new) }
+    ensures read { result ≡ Status.ReadFault → Rose (S.faults source.old) (S.faults source.new) }
+    ensures write { result ≡ Status.WriteFault → Rose (K.faults sink.old) (K.faults sink.new) }
+    ensures reads_kept { result ≢ Status.ReadFault → S.faults source.new ≡ S.faults source.old }
+    ensures writes_kept { result ≢ Status.WriteFault → K.faults sink.new ≡ K.faults sink.old }
+{
+    let mut device = match CheckedDevice::new(alloc, header) {
+        Ok(device) => device,
+        Err(_) => return Status::OutOfMemory,
+    };
+    match put_opening(text, sink) {
+        Ok(()) => run_lines(header, &mut device, reader, source, sink),
+        Err(stop) => stop.status(),
+    }
+}
+
+// Runs the lines behind the opening.
+fn run_lines<S: Source, K: Sink>(
+    header: &Header,
+    device: &mut CheckedDevice,
+    reader: LineReader,
+    source: &mut S,
+    sink: &mut K,
+) -> Status
+    requires accepted { IsAccepted header.now }
+    requires going_on { reader.last ≡ Line.Text }
+    requires stands { StandsFor device.old header.now [] Ready }
+    ensures answer { AnswersAs (IsRunBehind header.now (next_bytes reader.held (S.left source.old))) result (S.left source.old) (S.left source.new) (K.written sink.old) (K.written sink.new) }
+    ensures read { result ≡ Status.ReadFault → Rose (S.faults source.old) (S.faults source.new) }
+    ensures write { result ≡ Status.WriteFault → Rose (K.faults sink.old) (K.faults sink.new) }
+    ensures reads_kept { result ≢ Status.ReadFault → S.faults source.new ≡ S.faults source.old }
+    ensures writes_kept { result ≢ Status.WriteFault → K.faults sink.new ≡ K.faults sink.old }
+{
+    let mut lines = ScriptReader::new(reader, header.geometry(), 4);
+    'each: loop {
+        let number = lines.number();
+        match lines.next(source) {
+            Next::Line(line) => match act(device, number, &line, sink) {
+                Ok(None) => {}
+                Ok(Some(rule)) => return tell(number, rule, sink),
+                Err(stop) => return stop.status(),
+            },
+            Next::End(clock) => return finish(device, clock, sink),
+            Next::Refused(number, reason) => return refuse(number, reason, sink),
+            Next::Failed => return Status::ReadFault,
+        }
+    }
+}
+
+// Carries out the line with this number, and writes what it shows. The rule that it breaks, if it breaks one.
+fn act<K: Sink>(
+    device: &mut CheckedDevice,
+    number: u64,
+    line: &ScriptLine,
+    sink: &mut K,
+) -> Result<Option<Rule>, Stop>
+    requires { MayAct device.old number line.now }
+    ensures acts { (h : AnyHeader) (script : Script) → IsAt device.old h script number line.now
+        → Acts result (acted four_devices h script line.now) h device.new (K.written sink.old) (K.written sink.new) }
+    ensures kept { OnOk result (K.faults sink.new ≡ K.faults sink.old) }
+    ensures cause { IfErr result (WriteCause (K.faults sink.old) (K.faults sink.new)) }
+{
+    CheckedDevice::has_shape();
+    match line {
+        ScriptLine::Issued(clock, command) => issue(device, number, *clock, command, sink),
+        ScriptLine::Bytes(bytes) => write(device, bytes),
+        ScriptLine::Flip(line, chip, bit) => flip(device, *line, *chip, *bit, sink),
+        ScriptLine::End(clock) => Ok(device.end(*clock)),
+    }
+}
+
+// Judges a command, carries it out, and writes its C line and the D line of an RD.
+fn issue<K: Sink>(
+    device: &mut CheckedDevice,
+    number: u64,
+    clock: u64,
+    command: &Command,
+    sink: &mut K,
+) -> Result<Option<Rule>, Stop>
+    requires inside { IsReportLine (geometry_of device.old) (AnyReportLine.Issued clock command.now) }
+    requires ready { IsReady device.old }
+    ensures acts { (h : AnyHeader) (script : Script) → StandsFor device.old h script.steps Ready → number ≡ script.number
+        → Acts result (acted four_devices h script (AnyScriptLine.Issued clock command.now)) h device.new (K.written sink.old) (K.written sink.new) }
+    ensures kept { OnOk result (K.faults sink.new ≡ K.faults sink.old) }
+    ensures cause { IfErr result (WriteCause (K.faults sink.old) (K.faults sink.new)) }
+{
+    let checked = device.command(clock, *command);
+    show_command(&checked, number, clock, command, sink)
+}
+
+// Writes the C line of a command of which this came, and the D line of an RD. The rule that it breaks, if it breaks one.
+fn show_command<K: Sink>(
+    checked: &Checked,
+    number: u64,
+    clock: u64,
+    command: &Command,
+    sink: &mut K,
+) -> Result<Option<Rule>, Stop>
+    ensures acts { (h : AnyHeader) (script : Script) (new : AnyCheckedDevice) → number ≡ script.number → Commands checked.now new h clock command.now script.steps
+        → Acts result (acted four_devices h script (AnyScriptLine.Issued clock command.now)) h new (K.written sink.old) (K.written sink.new) }
+    ensures kept { OnOk result (K.faults sink.new ≡ K.faults sink.old) }
+    ensures cause { IfErr result (WriteCause (K.faults sink.old) (K.faults sink.new)) }
+{
+    match checked {
+        Checked::Breaks(rule) => Ok(Some(*rule)),
+        Checked::Awaits => go_on(put_line(&ReportLine::Issued(clock, *command), sink)),
+        Checked::Done(answer) => go_on(put_command(number, clock, *command, answer, sink)),
+    }
+}
+
+// A piece that was written breaks no rule.
+fn go_on(put: Result<(), Stop>) -> Result<Option<Rule>, Stop>
+    ensures { result ≡ gone_on put }
+{
+    match put {
+        Ok(()) => Ok(None),
+        Err(stop) => Err(stop),
+    }
+}
+
+// Gives a WR its bytes.
+fn write(device: &mut CheckedDevice, bytes: &[u8; 64]) -> Result<Option<Rule>, Stop>
+    requires { AwaitsBytes device.old }
+    ensures acts { (h : AnyHeader) (script : Script) (place : Issued) (written : Option (List ℕ)) → StandsFor device.old h script.steps (Waits place) → script.phase ≡ Waits place
+        → Acts result (acted four_devices h script (AnyScriptLine.Bytes bytes.now)) h device.new written written }
+    ensures memory { IfErr result (λ stop. stop ≡ Stop.OutOfMemory) }
+{
+    match device.write(bytes) {
+        Ok(()) => Ok(None),
+        Err(OutOfMemory) => Err(Stop::OutOfMemory),
+    }
+}
+
+// Turns a stored bit, and writes the F line.
+fn flip<K: Sink>(
+    device: &mut CheckedDevice,
+    line: LineAddr,
+    chip: u8,
+    bit: u8,
+    sink: &mut K,
+) -> Result<Option<Rule>, Stop>
+    requires inside { IsScriptLine (geometry_of device.old) 4 (AnyScriptLine.Flip line chip bit) }
+    requires ready { IsReady device.old }
+    ensures acts { (h : AnyHeader) (script : Script) → StandsFor device.old h script.steps Ready
+        → Acts result (acted four_devices h script (AnyScriptLine.Flip line chip bit)) h device.new (K.written sink.old) (K.written sink.new) }
+    ensures kept { OnOk result (K.faults sink.new ≡ K.faults sink.old) }
+    ensures cause { IfErr result (WriteCause (K.faults sink.old) (K.faults sink.new)) }
+{
+    let clock = device.last_clock();
+    match device.flip(line, chip, bit) {
+        Ok(()) => go_on(put_line(&ReportLine::Flip(clock, line, chip, bit), sink)),
+        Err(OutOfMemory) => Err(Stop::OutOfMemory),
+    }
+}

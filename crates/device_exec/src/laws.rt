@@ -1,0 +1,30 @@
+//! What holds of every script that is run, whoever made it. Each function does nothing: its contract is the law.
+ghost use Rattle.std.specs.Prelude.{ℕ, List};
+ghost use Rattle.device_exec.specs.Promises.{IsWithinBound, JudgesInOrder, ReadsWell};
+ghost use Rattle.speed_bin.specs.Header.{IsAccepted};
+ghost use Rattle.speed_bin.specs.declared.header.Header.{Header};
+
+use crate::script_line::script_lines;
+
+/// Each RD has its D line, in their order. Where each word of its line took at most one turned bit between two neighbouring
+/// rewrites since the line's last WR, and at most one after the last, the D line has the bytes of that WR, or 64 zero bytes
+/// where there is none, and is not lost.
+pub fn reads_last_write()
+    ensures reads { (h : Header) (rest : List ℕ) → ReadsWell h rest }
+{
+    script_lines();
+    device_core::laws::reads_last_write();
+}
+
+/// No row of the device has more activations since its last mitigation than the bound.
+pub fn bounds_activations()
+    ensures bounded { (h : Header) (rest : List ℕ) → IsAccepted h → IsWithinBound h rest }
+{
+    script_lines();
+    device_core::laws::peak_is_bounded();
+}
+
+/// The lines are judged in their order, by their grammar and by the rules alone.
+pub fn judges_in_order()
+    ensures judged { (h : Header) (rest : List ℕ) → JudgesInOrder h rest }
+{}
