@@ -1,5 +1,6 @@
 pub mod CapWords
 mod Copied
+mod Ended
 mod Newer
 pub mod MadeJob
 pub mod MadeRun

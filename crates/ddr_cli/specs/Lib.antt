@@ -3,6 +3,7 @@ pub mod Fault
 pub mod Made
 pub mod Behind
 pub mod Shown
+pub mod Streams
 pub mod Upgraded
 pub mod Wording
 pub mod Words

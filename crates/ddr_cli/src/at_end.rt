@@ -1,5 +1,5 @@
 //! How the program ends: its status once the output was handed on, and the number of that status.
-ghost use Rattle.std.specs.Prelude.{◌≡◌, ◌≢◌, []};
+ghost use Rattle.std.specs.Prelude.{◌≡◌, ◌≢◌, [], Bool};
 ghost use Rattle.std.specs.Io.Buffered.{writer_buffer, writer_contents};
 ghost use Rattle.std.specs.Io.KnownBytes.{Keeps};
 ghost use Rattle.std.specs.Process.{exit_status};
@@ -29,6 +29,7 @@ pub fn finish<W: Write + Drop>(status: Status, out: &mut BufWriter<W>) -> Status
     ensures kept { Keeps (writer_contents W.contents out.old) (writer_contents W.contents out.new) }
 
     // What could not be handed on is a write fault; nothing else changes the status.
+    ensures ended { (flushed : Bool) × (result ≡ status_at_end status flushed) }
     ensures same { result ≢ Status.WriteFault → result ≡ status }
     ensures fault { ¬ (IsAnswer status) → result ≡ status }
 {

@@ -35,8 +35,8 @@ const ROWS: [(&str, &str, Status); 10] = [
     ),
     // A bit is turned before the first command behind the register writes.
     (
-        "F 0 0 0\nC 32 0000 0000\nC 35 003d 0400\nC 38 001b\nE 39\n",
-        "F 28 0 0 0\nC 32 0000 0000\nC 35 003d 0400\nD 11 0 P ok\nC 38 001b\nS peak 1\nS found 0\nS lost 0\nS worst 0\nE 39\n",
+        "F 0 0 0\nC 32 0000 0000\nC 35 002d 0c00\nB P\nC 51 003d 0400\nC 54 000b\nE 55\n",
+        "F 28 0 0 0\nC 32 0000 0000\nC 35 002d 0c00\nC 51 003d 0400\nD 13 0 P ok\nC 54 000b\nS peak 1\nS found 0\nS lost 0\nS worst 0\nE 55\n",
         Status::Ok,
     ),
     // The script ends with a write.
@@ -119,7 +119,7 @@ fn a_refused_opening_of_a_script_is_told(rt: HostRuntime) -> Result<(), Fail> {
 
 // Jobs that write a line once, or twice the same data: with turned bits, with a scrub, and with alerts and 4 groups.
 const TURNED: &str =
-    "format = 1\nbin = \"tiny\"\nrows = 16\nath = 5\neth = 3\nraaimt = 8\nraammt = 16\nrefresh = \"all\"\necs_every = 0\n---\nW 0 P\nF 0 0 0\nR 0\nF 0 0 5\nF 0 3 9\nR 0\nR 1\n";
+    "format = 1\nbin = \"tiny\"\nrows = 16\nath = 5\neth = 3\nraaimt = 8\nraammt = 16\nrefresh = \"all\"\necs_every = 0\n---\nW 0 P\nF 0 0 0\nR 0\nF 0 0 5\nF 0 3 9\nR 0\n";
 
 const SCRUBBED: &str =
     "format = 1\nbin = \"tiny\"\nrows = 16\nath = 5\neth = 3\nraaimt = 8\nraammt = 16\nrefresh = \"all\"\necs_every = 1\n---\nW 0 P\nF 0 0 2\nI 2000\nF 0 0 4\nI 500\nR 0\n";
@@ -203,9 +203,9 @@ fn all_told(alloc: Global, report: &[u8]) -> Result<String, Fail> {
 fn a_replayed_log_is_a_script(rt: HostRuntime) -> Result<(), Fail> {
     let alloc = rt.alloc();
     for (job, last) in [
-        (TURNED, "S worst 0\nE 155\n"),
-        (SCRUBBED, "S worst 1\nE 155\n"),
-        (ALERTED, "S worst 0\nE 155\n"),
+        (TURNED, "S worst 0\nE 65\n"),
+        (SCRUBBED, "S worst 1\nE 2543\n"),
+        (ALERTED, "S worst 0\nE 181\n"),
     ] {
         let (status, report) = run_with(alloc, "replay", &with_data(alloc, job)?)?;
         assert_eq!(rt; status, Status::Ok);

@@ -77,9 +77,9 @@ fn ports_of(alloc: Global, job: &str) -> Result<String, Fail> {
 fn small_script(alloc: Global) -> Result<String, Fail> {
     let (_, data) = TRACE.split_once("W 0 ").unwrap_or(("", ""));
     let (data, _) = data.split_once('\n').unwrap_or(("", ""));
-    Ok(
-        format!(in alloc; "{OPENING}{REGISTERS}C 32 0000 0000\nC 35 002d 0c00\nB {data}\nF 0 0 0\nC 51 003d 0400\nC 54 000b\nE 55\n")?,
-    )
+    Ok(format!(in alloc;
+        "{OPENING}{REGISTERS}C 32 0000 0000\nC 35 002d 0c00\nB {data}\nF 0 0 0\nC 51 003d 0400\nC 54 000b\nE 55\n"
+    )?)
 }
 
 fn report_of(alloc: Global, job: &[u8]) -> Result<Vec<u8>, Fail> {

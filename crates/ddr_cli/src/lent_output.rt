@@ -19,6 +19,9 @@ pub(crate) struct Prompting<'a, R: Read, W: Write + Drop> {
 }
 
 impl<R: Read, W: Write + Drop> Read for Prompting<'_, R, W> {
+    // What the reader tells: handing on the output takes no byte of it.
+    ghost remaining = { λ p. R.remaining p.reader };
+
     fn read(&mut self, buf: &mut [u8]) -> io::Result<usize> {
         if let Ok(mut out) = self.out.try_borrow_mut() {
             if out.writer.flush().is_err() {

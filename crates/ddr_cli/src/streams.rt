@@ -1,6 +1,8 @@
 //! The run on the streams of the system.
 ghost use Rattle.std.specs.Prelude.{◌≡◌, ◌≢◌, ◌↔◌};
-ghost use Rattle.ddr_cli.specs.Words.{AskForRules, IsListed, Makes};
+ghost use Rattle.ddr_cli.specs.Streams.{EndsAs, IsDoneFor};
+ghost use Rattle.ddr_cli.specs.Words.{AskForRules, IsListed, IsOfForm, Makes};
+ghost use Rattle.ddr_cli.specs.declared.form.Form.{Form};
 
 use crate::lent_output::{LentOutput, Output, Prompting};
 use crate::{at_end, finish, form_of, run};
@@ -22,6 +24,9 @@ pub fn run_on_streams<R: Read, W: Write>(
     ensures unwritten { result ≡ Status.Usage → writer.new ≡ writer.old }
     ensures made_unread { Makes words.now → reader.new ≡ reader.old }
     ensures broken { result ≡ Status.Broken → AskForRules words.now }
+
+    // The status is that of what the words ask for, by the bytes of a reader that tells them, or a write fault at the last flush.
+    ensures done { (form : Form) → IsOfForm words.now form → EndsAs (IsDoneFor form (R.remaining reader.old)) result }
 {
     match form_of(words) {
         Some(_) => run_buffered(alloc, words, reader, writer),
@@ -40,6 +45,7 @@ fn run_buffered<R: Read, W: Write>(
     ensures usage { result ≢ Status.Usage }
     ensures made_unread { Makes words.now → reader.new ≡ reader.old }
     ensures broken { result ≡ Status.Broken → AskForRules words.now }
+    ensures done { (form : Form) → IsOfForm words.now form → EndsAs (IsDoneFor form (R.remaining reader.old)) result }
 {
     let out = match BufWriter::new(alloc, writer) {
         Ok(writer) => RefCell::new(Output {
@@ -65,6 +71,7 @@ fn run_prompting<R: Read, W: Write + Drop>(
     ensures usage { result ≢ Status.Usage }
     ensures made_unread { Makes words.now → reader.new ≡ reader.old }
     ensures broken { result ≡ Status.Broken → AskForRules words.now }
+    ensures done { (form : Form) → IsOfForm words.now form → IsDoneFor form (R.remaining reader.old) result }
 {
     let mut source = RealSource::new(Prompting { reader, out });
     let mut sink = RealSink::new(LentOutput { out });

@@ -61,7 +61,8 @@ fn commands_are_shown(rt: HostRuntime) -> Result<(), Fail> {
 
 #[test]
 fn a_refused_line_ends_what_is_shown(rt: HostRuntime) -> Result<(), Fail> {
-    let report = b"format = 1\nbin = \"tiny\"\nrows = 16\nath = 5\neth = 3\nraaimt = 8\nraammt = 16\nrefresh = \"all\"\necs_every = 0\n---\nC 3 001f\nQ\n";
+    let report =
+        b"format = 1\nbin = \"tiny\"\nrows = 16\nath = 5\neth = 3\nraaimt = 8\nraammt = 16\nrefresh = \"all\"\necs_every = 0\n---\nC 3 001f\nQ\n";
     let (status, shown) = run_with(rt.alloc(), &["show"], report)?;
     assert_eq!(rt; status, Status::Refused);
     assert_eq!(rt; shown.bytes(), b"3 NOP\nX 2 2\n".as_slice());

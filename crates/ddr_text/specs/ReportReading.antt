@@ -1,5 +1,5 @@
 -- How the lines of a report are read, behind its opening. `docs/FORMATS.md` has the same in words.
-use Rattle.std.specs.Prelude.{ℕ, suc, ◌≡◌, ◌+◌, ◌≤◌, ⊤, ⊥, nat_lt, Bool, true, false, if◌then◌else◌, List, [], ◌∷◌, Some, None, Result, Ok, Err}
+use Rattle.std.specs.Prelude.{ℕ, suc, ◌≡◌, ◌+◌, ◌≤◌, ⊤, nat_lt, Bool, true, false, if◌then◌else◌, List, [], ◌∷◌, Some, None, Result, Ok, Err}
 use Rattle.std.specs.declared.option.Option.{Option}
 use Rattle.command_words.specs.Geometry.{Shape}
 use Rattle.ddr_io.specs.Reading.{Reading as ReaderOfLines}

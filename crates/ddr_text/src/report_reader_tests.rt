@@ -1,23 +1,17 @@
 //! Which lines of a report are read in their places, and how the reading ends: each row from the format.
-use crate::{Next, Opening, ReportReader, open_job};
+use crate::{Next, ReportReader};
+use command_words::Geometry;
 use ddr_io::{LineReader, PlainSource};
 use std::alloc::Global;
 use std::test::Fail;
 
-const OPENING: &str =
-    "format = 1\nbin = \"tiny\"\nrows = 16\nath = 6\neth = 3\nraaimt = 8\nraammt = 16\nrefresh = \"all\"\necs_every = 0\n---\n";
-
-// How the report of these lines ends, behind its opening.
+// How a report with these lines behind its opening ends.
 fn end_of(alloc: Global, lines: &str) -> Result<Next, Fail> {
-    let report = format!(in alloc; "{OPENING}{lines}")?;
-    let mut source = PlainSource::new(report.as_bytes().to_vec(alloc)?);
-    let mut reader = LineReader::new();
-    let header = match open_job(alloc, &mut reader, &mut source)? {
-        Opening::Accepted(header, _) => header,
-        Opening::Refused(_) => return Ok(Next::Failed),
-        Opening::Failed => return Ok(Next::Failed),
+    let mut source = PlainSource::new(lines.as_bytes().to_vec(alloc)?);
+    let Some(geometry) = Geometry::new(16, 8) else {
+        return Ok(Next::Failed);
     };
-    let mut report = ReportReader::new(reader, header.geometry());
+    let mut report = ReportReader::new(LineReader::new(), geometry);
     for _ in 0..20_usize {
         match report.next(&mut source) {
             Next::Line(_) => {}

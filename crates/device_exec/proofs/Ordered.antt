@@ -228,9 +228,10 @@ judged_in_order h rest =
 -- such a script is neither refused nor broken
 pub unblamed : (old new before after : Option (List ℕ)) (answer : Status) → AnswersAs (IsExecuted old) answer old new before after → (bytes rest text : List ℕ) (h : Header) (clock : ℕ) → old ≡ Some bytes → opening_of bytes ≡ Accepts h text rest
     → IsFlawless h rest clock → IsUnblamed answer
-unblamed old new before after answer answers bytes rest text h clock is opens fine =
-    (λ (e : answer ≡ status.Refused). never status.Refused (subst (λ (s : Status). AnswersAs (IsExecuted old) s old new before after) e answers) (λ f. cc),
-     λ (e : answer ≡ status.Broken). never status.Broken (subst (λ (s : Status). AnswersAs (IsExecuted old) s old new before after) e answers) (λ f. cc))
+unblamed old new before after answer answers bytes rest text h clock is opens fine = (
+  λ (e : answer ≡ status.Refused). never status.Refused (subst (λ (s : Status). AnswersAs (IsExecuted old) s old new before after) e answers) (λ f. cc),
+  λ (e : answer ≡ status.Broken). never status.Broken (subst (λ (s : Status). AnswersAs (IsExecuted old) s old new before after) e answers) (λ f. cc),
+)
   where
     never : (s : Status) → EndsAs (IsExecuted old) s before after → (s ≡ status.Ok → ⊥) → ⊥
     never s (it, executes, same, wrote) other =

@@ -8,7 +8,7 @@ use Rattle.ddr_text.specs.Opening.{with_feed, parts_of}
 use Rattle.fair_queue.specs.Arrivals.{AreInside, Input, input_of}
 use Rattle.fair_queue.specs.Admitting.{AdmitsIf, IsAdmitted}
 use Rattle.fair_queue.specs.Machine.{Queued, Filled, empty, queue_of, filled, next_port, first_rest, without_first, in_queues}
-use Rattle.fair_queue.specs.Merged.{barriers, one_more, is_request, merged_behind, text_from}
+use Rattle.fair_queue.specs.Merged.{barriers, one_more, is_request, text_from}
 use Rattle.fair_queue.specs.Merging.{BeginsToMerge, GivesAll, GivesFrom, HasMerged, IsSettled}
 use Rattle.fair_queue.specs.Reading.{Place, AreKept, EndsAt, Fills, FillsFrom, IsSteady, MayFollow, left_in, waiting}
 use Rattle.fair_queue.specs.declared.port_lines.Ahead.TheVariants.{Unknown}

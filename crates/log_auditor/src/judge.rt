@@ -277,17 +277,6 @@ fn write_of(command: &Command) -> Option<Mrw>
 {
     match command {
         Command::Mrw(write) => Some(*write),
-        Command::Act(_, _) => None,
-        Command::Rd(_, _) => None,
-        Command::Wr(_, _) => None,
-        Command::PrePb(_) => None,
-        Command::PreSb(_) => None,
-        Command::PreAb => None,
-        Command::RefAb => None,
-        Command::RefSb(_) => None,
-        Command::RfmAb => None,
-        Command::RfmSb(_) => None,
-        Command::Ecs => None,
-        Command::Nop => None,
+        _ => None,
     }
 }

@@ -21,21 +21,10 @@ pub(crate) fn management_rule(ledger: &Ledger, raised: bool, command: &Command) 
     ensures { (h : AnyHeader) (log : Log) → LedgerStandsFor ledger.now h log → raised ≡ is_some (alert_of h log)
         → result ≡ first_failing 11 (rule_11 h command.now log ∷ []) }
 {
-    match command {
-        Command::RfmAb => failing(is_wanted_or(ledger, raised), 11),
-        Command::Act(_, _) => None,
-        Command::Rd(_, _) => None,
-        Command::Wr(_, _) => None,
-        Command::PrePb(_) => None,
-        Command::PreSb(_) => None,
-        Command::PreAb => None,
-        Command::RefAb => None,
-        Command::RefSb(_) => None,
-        Command::RfmSb(_) => None,
-        Command::Mrw(_) => None,
-        Command::Ecs => None,
-        Command::Nop => None,
+    if !command.is_rfm_all() {
+        return None;
     }
+    failing(is_wanted_or(ledger, raised), 11)
 }
 
 // Rules 12 and 13: while the alert is raised, an ACT may come within its window, and any command until its deadline.

@@ -75,10 +75,7 @@ fn bad_writes_are_refused(rt: HostRuntime) {
 
 #[test]
 fn each_fault_has_its_number(rt: HostRuntime) {
-    let rows = [
-        (RegisterFault::NoRegister, 1),
-        (RegisterFault::BadValue, 2),
-    ];
+    let rows = [(RegisterFault::NoRegister, 1), (RegisterFault::BadValue, 2)];
     for (fault, number) in rows {
         assert_eq!(rt; number, fault as u8);
     }

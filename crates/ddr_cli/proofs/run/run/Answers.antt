@@ -79,3 +79,9 @@ returns-in-None-clause-exec_reads g c = λ bytes rest text h is left opens. absu
 
 pub returns-in-None-clause-exec_bounded : goal.returns-in-None-clause-exec_bounded
 returns-in-None-clause-exec_bounded g c = λ bytes rest text h is left opens. absurd (c.in-None.ensures (Exec, is))
+
+pub returns-in-Some-Exec-clause-exec_judged : goal.returns-in-Some-Exec-clause-exec_judged
+returns-in-Some-Exec-clause-exec_judged g c = λ bytes rest text h is left opens. c.exec.ensures.judged bytes rest text h left opens
+
+pub returns-in-Some-Exec-clause-exec_complete : goal.returns-in-Some-Exec-clause-exec_complete
+returns-in-Some-Exec-clause-exec_complete g c = λ bytes rest text h clock is left opens flawless. c.exec.ensures.complete bytes rest text h clock left opens flawless
