@@ -15,11 +15,11 @@ use Rattle.deadlines.proofs.OneMore.{one_more}
 use Rattle.deadlines.proofs.Moves.{Slack}
 use Rattle.deadlines.specs.Rounds.{Rounds}
 use Rattle.deadlines.specs.Standing.{Stands}
-use Rattle.deadlines.specs.Pace.{is_other, others, Paced}
+use Rattle.deadlines.specs.Pace.{is_other, others, WithinSpans}
 use Rattle.deadlines.specs.Counts.{AllAddressed, is_addressed, Job}
 use Rattle.deadlines.proofs.Rounds.{scrubs_step}
 use Rattle.deadlines.proofs.Keeping.{few_scrubs, not_early_now, some_interval}
-use Rattle.deadlines.proofs.Pace.{refs_sum, sum_all, sum_own, sum_grows, paced_bound}
+use Rattle.deadlines.proofs.Pace.{refs_sum, sum_all, sum_own, sum_grows, in_spans_bound}
 use Rattle.deadlines.proofs.Counting.{precharges_most, rfm_all_most, rfm_same_most, acts_most, owed_waiting}
 
 -- the commands that are neither REF nor ECS are of seven kinds
@@ -89,9 +89,9 @@ others_bound h log waiting n j =
     omega arith
 
 -- the end of a job
-pub end_bound : (h : Header) (log : Log) (waiting : List ℕ) (n now until idle : ℕ) → Slack h → Job h log waiting n → AllAddressed log → Rounds log → scrubs log ≤ refs 0 log → refs 0 log * h.timing.nrefi ≤ now → (p : Paced h log now until idle) → p.y ≤ 2 * (idle + 8 * (n_max h.timing) * (n + 3))
+pub end_bound : (h : Header) (log : Log) (waiting : List ℕ) (n now until idle : ℕ) → Slack h → Job h log waiting n → AllAddressed log → Rounds log → scrubs log ≤ refs 0 log → refs 0 log * h.timing.nrefi ≤ now → (p : WithinSpans h log now until idle) → p.y ≤ 2 * (idle + 8 * (n_max h.timing) * (n + 3))
 end_bound h log waiting n now until idle slack j ok r few early p =
-    let a = paced_bound h log now until idle slack ok r few early p in
+    let a = in_spans_bound h log now until idle slack ok r few early p in
     let b : others log * n_max h.timing ≤ (8 + 5 * n) * n_max h.timing = mul-le-mul_right (n_max h.timing) (others_bound h log waiting n j) in
     let c : (8 + 5 * n) * n_max h.timing ≤ (8 * (n + 3)) * n_max h.timing = mul-le-mul_right (n_max h.timing) (omega arith) in
     omega arith
@@ -108,7 +108,7 @@ places_bound h log waiting n now some j ok r few early =
     let s : refs_sum log ≡ refs 0 log + refs 1 log + refs 2 log + refs 3 log = refl in
     omega arith
 
-pub end_law : (h : Header) (task : Option Task) (log : Log) (waiting : List ℕ) (n now until idle : ℕ) → Slack h → Stands h log task now → Job h log waiting n → AllAddressed log → (p : Paced h log now until idle) → p.y ≤ 2 * (idle + 8 * n_max h.timing * (n + 3))
+pub end_law : (h : Header) (task : Option Task) (log : Log) (waiting : List ℕ) (n now until idle : ℕ) → Slack h → Stands h log task now → Job h log waiting n → AllAddressed log → (p : WithinSpans h log now until idle) → p.y ≤ 2 * (idle + 8 * n_max h.timing * (n + 3))
 end_law h task log waiting n now until idle slack s j ok p = end_bound h log waiting n now until idle slack j ok s.timely.rounds (few_scrubs h task now log s) (not_early_now h task now log s) p
 
 pub places_law : (h : Header) (task : Option Task) (log : Log) (waiting : List ℕ) (n now : ℕ) → Slack h → Stands h log task now → Job h log waiting n → AllAddressed log → length log ≤ 8 + 5 * n + 5 * (now / h.timing.nrefi)

@@ -15,7 +15,7 @@ use Rattle.deadlines.specs.Blocking.{AllUpTo}
 use Rattle.deadlines.proofs.Moves.{Slack, Reaches, Now, Due, Target}
 use Rattle.deadlines.specs.Rounds.{Rounds, next_due}
 use Rattle.deadlines.specs.Counts.{is_addressed, AllAddressed}
-use Rattle.deadlines.specs.Pace.{span, spans, is_other, others, AllOver, Paced}
+use Rattle.deadlines.specs.Pace.{span, spans, is_other, others, AllOver, WithinSpans}
 use Rattle.deadlines.proofs.Gaps.{gap_max, faw_max, gap_ref_all, gap_ref_same, gap_scrub}
 use Rattle.deadlines.proofs.Following.{fourth_back}
 use Rattle.deadlines.proofs.Stages.{some_max}
@@ -120,8 +120,8 @@ clear_later t y z (place ∷ log) more k = ((let a = k.0 in omega arith), clear_
 -- ---- A turn
 
 -- one more command takes no more than its span, whatever it waited for
-pub paced_next : (h : Header) (start until idle : ℕ) (place : Issued) (log : Log) → Slack h → (p : Paced h log start until idle) → IsSoonest h log start place.command place.clock → Paced h (place ∷ log) (place.clock + 1) until idle
-paced_next h start until idle place log s p at =
+pub in_spans_next : (h : Header) (start until idle : ℕ) (place : Issued) (log : Log) → Slack h → (p : WithinSpans h log start until idle) → IsSoonest h log start place.command place.clock → WithinSpans h (place ∷ log) (place.clock + 1) until idle
+in_spans_next h start until idle place log s p at =
     let here : place.clock ≤ p.y = at.least p.y p.by_now (clear_may h p.y place.command log s p.over) in
     let some = some_span h place.command s in
     let b = p.bound in
@@ -135,28 +135,28 @@ paced_next h start until idle place log s p at =
     }
 
 -- the e of a candidate is no later, and so is the clock to which now is moved for a refresh that is due there
-pub paced_due : (h : Header) (now until idle e0 due : ℕ) (c : Command) (log : Log) → Slack h → Paced h log now until idle → (e0 ≡ max now until) ⊎ IsSoonest h log now c e0 → due ≤ e0 → Paced h log (max now due) until idle
-paced_due h now until idle e0 due c log s p (inl e) low =
+pub in_spans_due : (h : Header) (now until idle e0 due : ℕ) (c : Command) (log : Log) → Slack h → WithinSpans h log now until idle → (e0 ≡ max now until) ⊎ IsSoonest h log now c e0 → due ≤ e0 → WithinSpans h log (max now due) until idle
+in_spans_due h now until idle e0 due c log s p (inl e) low =
     let a = p.by_now in
     let b = p.by_until in
     record { y = p.y; over = p.over; by_now = omega arith; by_until = p.by_until; bound = p.bound }
-paced_due h now until idle e0 due c log s p (inr at) low =
+in_spans_due h now until idle e0 due c log s p (inr at) low =
     let a = p.by_now in
     let k = at.least p.y p.by_now (clear_may h p.y c log s p.over) in
     record { y = p.y; over = p.over; by_now = omega arith; by_until = p.by_until; bound = p.bound }
 
 -- an idle turn, and an I line
-pub paced_idle : (h : Header) (now until idle : ℕ) (log : Log) → Paced h log now until idle → Paced h log (max now until) until idle
-paced_idle h now until idle log p = let a = p.by_now in let b = p.by_until in record { y = p.y; over = p.over; by_now = omega arith; by_until = p.by_until; bound = p.bound }
+pub in_spans_idle : (h : Header) (now until idle : ℕ) (log : Log) → WithinSpans h log now until idle → WithinSpans h log (max now until) until idle
+in_spans_idle h now until idle log p = let a = p.by_now in let b = p.by_until in record { y = p.y; over = p.over; by_now = omega arith; by_until = p.by_until; bound = p.bound }
 
-pub paced_line : (h : Header) (now until idle clocks : ℕ) (log : Log) → Paced h log now until idle → Paced h log now (now + clocks) (idle + clocks)
-paced_line h now until idle clocks log p =
+pub in_spans_line : (h : Header) (now until idle clocks : ℕ) (log : Log) → WithinSpans h log now until idle → WithinSpans h log now (now + clocks) (idle + clocks)
+in_spans_line h now until idle clocks log p =
     let a = p.by_now in
     let b = p.bound in
     record { y = p.y + clocks; over = clear_later h.timing p.y (p.y + clocks) log (omega arith) p.over; by_now = omega arith; by_until = omega arith; bound = omega arith }
 
-pub paced_start : (h : Header) → Paced h [] 0 0 0
-paced_start h = record { y = 0; over = tt; by_now = omega arith; by_until = omega arith; bound = omega arith }
+pub in_spans_start : (h : Header) → WithinSpans h [] 0 0 0
+in_spans_start h = record { y = 0; over = tt; by_now = omega arith; by_until = omega arith; bound = omega arith }
 
 -- ---- What the refreshes and the scrubs take
 
@@ -220,9 +220,9 @@ spans_most h m (place ∷ log) all same ok = go place.command refl (spans_most h
     go c is ih = plain c ih
 
 -- now and the idle target are at most twice the idle clocks and nMax for each command that is neither REF nor ECS
-pub paced_bound : (h : Header) (log : Log) (now until idle : ℕ) → Slack h → AllAddressed log → Rounds log → scrubs log ≤ refs 0 log → refs 0 log * h.timing.nrefi ≤ now → (p : Paced h log now until idle) → p.y ≤ 2 * (idle + others log * n_max h.timing)
+pub in_spans_bound : (h : Header) (log : Log) (now until idle : ℕ) → Slack h → AllAddressed log → Rounds log → scrubs log ≤ refs 0 log → refs 0 log * h.timing.nrefi ≤ now → (p : WithinSpans h log now until idle) → p.y ≤ 2 * (idle + others log * n_max h.timing)
 unfolding refs_sum
-paced_bound h log now until idle slack ok r few early p =
+in_spans_bound h log now until idle slack ok r few early p =
     let m : ℕ = max h.timing.nrfc (4 * h.timing.nrfcsb) in
     let sixth = slack.sixth in
     let s = spans_most h m log (omega arith) (omega arith) ok in
@@ -235,7 +235,7 @@ paced_bound h log now until idle slack ok r few early p =
     closing_sum (spans h.timing log) (others log * n_max h.timing) (scrubs log) (refs 0 log) m h.timing.necs h.timing.nrp h.timing.nrefi (refs_sum log) now p.y idle s sum scrub half early p.by_now p.bound
 
 -- whatever a turn waits for, its command takes no more than its span
-pub paced_turn : (h : Header) (now until idle start : ℕ) (place : Issued) (log : Log) → Slack h → Paced h log now until idle → Reaches h log now until start → IsSoonest h log start place.command place.clock → Paced h (place ∷ log) (place.clock + 1) until idle
-paced_turn h now until idle start place log s p (Now e) at = paced_next h now until idle place log s p (rw e at at)
-paced_turn h now until idle start place log s p (Due e0 c e low from) at = paced_next h (max now (next_due h log)) until idle place log s (paced_due h now until idle e0 (next_due h log) c log s p from low) (rw e at at)
-paced_turn h now until idle start place log s p (Target e) at = paced_next h (max now until) until idle place log s (paced_idle h now until idle log p) (rw e at at)
+pub in_spans_turn : (h : Header) (now until idle start : ℕ) (place : Issued) (log : Log) → Slack h → WithinSpans h log now until idle → Reaches h log now until start → IsSoonest h log start place.command place.clock → WithinSpans h (place ∷ log) (place.clock + 1) until idle
+in_spans_turn h now until idle start place log s p (Now e) at = in_spans_next h now until idle place log s p (rw e at at)
+in_spans_turn h now until idle start place log s p (Due e0 c e low from) at = in_spans_next h (max now (next_due h log)) until idle place log s (in_spans_due h now until idle e0 (next_due h log) c log s p from low) (rw e at at)
+in_spans_turn h now until idle start place log s p (Target e) at = in_spans_next h (max now until) until idle place log s (in_spans_idle h now until idle log p) (rw e at at)

@@ -19,7 +19,7 @@ use Rattle.deadlines.specs.Tasks.{command_of}
 use Rattle.deadlines.specs.Backoffs.{Backoff}
 use Rattle.deadlines.specs.Timely.{Timely, Ready, ForRefAll, ForRefSame, ForEcs, ForRfmAll, ForRfmSame}
 use Rattle.deadlines.specs.Counts.{is_addressed}
-use Rattle.deadlines.specs.Standing.{AllInTime, Opening, Holds, Keeps}
+use Rattle.deadlines.specs.Standing.{AllInTime, Opening, KeepsDeadlines, Keeps}
 use Rattle.deadlines.specs.Turns.{has_request, Turn, WritesRegister, ServesTask, EndsTask, ServesRequest, ClosesAtEnd}
 use Rattle.deadlines.specs.declared.task.Task.{Task}
 use Rattle.deadlines.specs.declared.task.Task.TheVariants.{RfmAll, Ecs as Scrub, RefAll, RefSame, RfmSame}
@@ -30,7 +30,7 @@ use Rattle.deadlines.proofs.Backoffs.{rfm_all_raised}
 use Rattle.deadlines.proofs.Phases.{stays_calm}
 use Rattle.deadlines.proofs.Plain.{ready_chosen, advance_plain, free_plain, write_plain}
 use Rattle.deadlines.proofs.Keeping.{stands_start, stands_next, stands_idle, ends_in_time, some_interval, first_clock, debt_of_two}
-use Rattle.deadlines.proofs.Pace.{paced_turn, paced_start, paced_line, paced_idle}
+use Rattle.deadlines.proofs.Pace.{in_spans_turn, in_spans_start, in_spans_line, in_spans_idle}
 use Rattle.deadlines.proofs.Queues.{job_next}
 use Rattle.deadlines.proofs.Bounding.{acts_bound, end_law, places_law}
 use Rattle.deadlines.proofs.Due.{before_due}
@@ -48,11 +48,11 @@ slack_of h ok = record {
   sixth = ok.checks.round_within_half;
 }
 
-pub opened : (h : Header) (log : Log) (task : Option Task) (now until idle : ℕ) (waiting : List ℕ) (n : ℕ) → Keeps h log task now until idle waiting n → Holds h log task now until idle waiting n
+pub opened : (h : Header) (log : Log) (task : Option Task) (now until idle : ℕ) (waiting : List ℕ) (n : ℕ) → Keeps h log task now until idle waiting n → KeepsDeadlines h log task now until idle waiting n
 unfolding Keeps
 opened h log task now until idle waiting n k = k
 
-pub shut : (h : Header) (log : Log) (task : Option Task) (now until idle : ℕ) (waiting : List ℕ) (n : ℕ) → Holds h log task now until idle waiting n → Keeps h log task now until idle waiting n
+pub shut : (h : Header) (log : Log) (task : Option Task) (now until idle : ℕ) (waiting : List ℕ) (n : ℕ) → KeepsDeadlines h log task now until idle waiting n → Keeps h log task now until idle waiting n
 unfolding Keeps
 shut h log task now until idle waiting n k = k
 
@@ -151,7 +151,7 @@ alike_next h place log old same all = go (plain_or place.command)
 
 -- ---- A turn
 
-pub holds_next : (h : Header) (log : Log) (task next : Option Task) (now until idle : ℕ) (waiting later : List ℕ) (n : ℕ) (place : Issued) → Slack h → Holds h log task now until idle waiting n → Turn h log task now until waiting place next later → Holds h (place ∷ log) next (place.clock + 1) until idle later n
+pub holds_next : (h : Header) (log : Log) (task next : Option Task) (now until idle : ℕ) (waiting later : List ℕ) (n : ℕ) (place : Issued) → Slack h → KeepsDeadlines h log task now until idle waiting n → Turn h log task now until waiting place next later → KeepsDeadlines h (place ∷ log) next (place.clock + 1) until idle later n
 holds_next h log task next now until idle waiting later n place slack k turn =
     let i = issues_in_numbers h log task now until waiting place next later slack k.stands k.opening k.mode turn in
     let from = turn_from h log task now until waiting place next later slack k.stands.timely.rounds turn in
@@ -168,7 +168,7 @@ holds_next h log task next now until idle waiting later n place slack k turn =
           (write_count h log task now until waiting place next later turn i)
           k.job;
       addressed = (issue_addressed h task next now place log k.stands.timely i, k.addressed);
-      paced = paced_turn h now until idle from.start place log slack k.paced from.reaches from.at;
+      in_spans = in_spans_turn h now until idle from.start place log slack k.in_spans from.reaches from.at;
     }
 
 pub keeps_turn : (h : Header) (log : Log) (task next : Option Task) (now until idle : ℕ) (waiting later : List ℕ) (n : ℕ) (place : Issued) → IsAccepted h → Keeps h log task now until idle waiting n → Turn h log task now until waiting place next later → Keeps h (place ∷ log) next (place.clock + 1) until idle later n
@@ -240,7 +240,7 @@ keeps_start h ok = shut h [] None 0 0 0 [] 0 (record {
     some_raaimt = ok.settings.raaimt.0;
   };
   addressed = tt;
-  paced = paced_start h;
+  in_spans = in_spans_start h;
 })
 
 wanted_more : (waiting : List ℕ) (own b : ℕ) → has_request waiting b ≡ true → has_request (waiting ++ (own ∷ [])) b ≡ true
@@ -268,7 +268,7 @@ keeps_offer h log task now until idle waiting n own keeps =
         some_raaimt = k.job.some_raaimt;
       };
       addressed = k.addressed;
-      paced = k.paced;
+      in_spans = k.in_spans;
     })
 
 pub keeps_line : (h : Header) (log : Log) (task : Option Task) (now until idle clocks : ℕ) (waiting : List ℕ) (n : ℕ) → Keeps h log task now until idle waiting n → Keeps h log task now (now + clocks) (idle + clocks) waiting n
@@ -280,7 +280,7 @@ keeps_line h log task now until idle clocks waiting n keeps =
       mode = k.mode;
       job = k.job;
       addressed = k.addressed;
-      paced = paced_line h now until idle clocks log k.paced;
+      in_spans = in_spans_line h now until idle clocks log k.in_spans;
     })
 
 pub keeps_rest : (h : Header) (log : Log) (now until idle : ℕ) (waiting : List ℕ) (n : ℕ) → IsAccepted h → Keeps h log None now until idle waiting n → 8 ≤ length log → alert h log ≡ None → IsNothingDue h (max now until) log → Keeps h log None (max now until) until idle waiting n
@@ -294,7 +294,7 @@ keeps_rest h log now until idle waiting n ok keeps many none nothing =
       mode = k.mode;
       job = k.job;
       addressed = k.addressed;
-      paced = paced_idle h now until idle log k.paced;
+      in_spans = in_spans_idle h now until idle log k.in_spans;
     })
 
 pub rest_sixth : (h : Header) (log : Log) (now until idle : ℕ) (waiting : List ℕ) (n : ℕ) → IsAccepted h → Keeps h log None now until idle waiting n → alert h log ≡ None → IsNothingDue h (max now until) log → all_below 4 (λ address. is_on_time h (max now until) address log) ≡ true
@@ -315,15 +315,15 @@ bound_acts h log task now until idle waiting n ok keeps = acts_bound h log waiti
 pub bound_end : (h : Header) (log : Log) (task : Option Task) (now until idle : ℕ) (waiting : List ℕ) (n : ℕ) → IsAccepted h → Keeps h log task now until idle waiting n → now ≤ 2 * (idle + 8 * n_max h.timing * (n + 3))
 bound_end h log task now until idle waiting n ok keeps =
     let k = opened h log task now until idle waiting n keeps in
-    let y = end_law h task log waiting n now until idle (slack_of h ok) k.stands k.job k.addressed k.paced in
-    let by = k.paced.by_now in
+    let y = end_law h task log waiting n now until idle (slack_of h ok) k.stands k.job k.addressed k.in_spans in
+    let by = k.in_spans.by_now in
     omega arith
 
 pub bound_target : (h : Header) (log : Log) (task : Option Task) (now until idle : ℕ) (waiting : List ℕ) (n : ℕ) → IsAccepted h → Keeps h log task now until idle waiting n → until ≤ 2 * (idle + 8 * n_max h.timing * (n + 3))
 bound_target h log task now until idle waiting n ok keeps =
     let k = opened h log task now until idle waiting n keeps in
-    let y = end_law h task log waiting n now until idle (slack_of h ok) k.stands k.job k.addressed k.paced in
-    let by = k.paced.by_until in
+    let y = end_law h task log waiting n now until idle (slack_of h ok) k.stands k.job k.addressed k.in_spans in
+    let by = k.in_spans.by_until in
     omega arith
 
 pub bound_places : (h : Header) (log : Log) (task : Option Task) (now until idle : ℕ) (waiting : List ℕ) (n : ℕ) → IsAccepted h → Keeps h log task now until idle waiting n → length log ≤ 28 + 5 * n + 5 * (now / h.timing.nrefi)

@@ -37,7 +37,7 @@ AllOver t y [] = ⊤
 AllOver t y (place ∷ log) = (place.clock + span t place.command ≤ y) × AllOver t y log
 
 -- now and the idle target are not later than the idle clocks and the spans together
-pub record Paced (h : Header) (log : Log) (now until idle : ℕ) : Type 0 where
+pub record WithinSpans (h : Header) (log : Log) (now until idle : ℕ) : Type 0 where
   pub y : ℕ
   pub over : AllOver h.timing y log
   pub by_now : now ≤ y

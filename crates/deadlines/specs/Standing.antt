@@ -9,7 +9,7 @@ use Rattle.speed_bin.specs.declared.settings.RefreshMode.{RefreshMode}
 use Rattle.deadlines.specs.Backoffs.{Backoff}
 use Rattle.deadlines.specs.Timely.{Timely}
 use Rattle.deadlines.specs.Counts.{AllAddressed, Job}
-use Rattle.deadlines.specs.Pace.{Paced}
+use Rattle.deadlines.specs.Pace.{WithinSpans}
 use Rattle.deadlines.specs.declared.task.Task.{Task}
 use Rattle.deadlines.specs.declared.task.Task.TheVariants.{RefSame}
 
@@ -37,15 +37,15 @@ pub record InMode (h : Header) (log : Log) (task : Option Task) : Type 0 where
   pub same : (address : ℕ) → task ≡ Some (RefSame address) → h.settings.refresh ≡ RefreshMode.Same
 
 -- all of it
-pub record Holds (h : Header) (log : Log) (task : Option Task) (now until idle : ℕ) (waiting : List ℕ) (n : ℕ) : Type 0 where
+pub record KeepsDeadlines (h : Header) (log : Log) (task : Option Task) (now until idle : ℕ) (waiting : List ℕ) (n : ℕ) : Type 0 where
   pub stands : Stands h log task now
   pub opening : length log < 8 → Opening h log task now
   pub mode : InMode h log task
   pub job : Job h log waiting n
   pub addressed : AllAddressed log
-  pub paced : Paced h log now until idle
+  pub in_spans : WithinSpans h log now until idle
 
 -- The controller keeps its deadlines: after this log, with this task, `now` and idle target, with these banks of waiting
 -- requests, n requests offered and `idle` clocks in idle lines so far. How it does is the laws' own affair.
 unfoldable pub Keeps : Header → Log → Option Task → ℕ → ℕ → ℕ → List ℕ → ℕ → Type 0
-Keeps h log task now until idle waiting n = Holds h log task now until idle waiting n
+Keeps h log task now until idle waiting n = KeepsDeadlines h log task now until idle waiting n

@@ -15,7 +15,7 @@ use Rattle.requests.specs.declared.request.Request.{Request}
 use Rattle.requests.specs.declared.waiting.Waiting.{Waiting}
 use Rattle.deadlines.specs.Standing.{Keeps}
 use Rattle.deadlines.specs.declared.task.Task.{Task}
-use Rattle.scheduler.specs.Controller.{Holds, banks_of, excused, is_covered, none_wait}
+use Rattle.scheduler.specs.Controller.{BetweenTurns, banks_of, excused, is_covered, none_wait}
 use Rattle.scheduler.specs.declared.state.State.{State}
 use Rattle.scheduler.proofs.Parts.{length-places}
 
@@ -28,7 +28,7 @@ banks_append [] w = refl
 banks_append (v ∷ ws) w = ap (λ bs. bank_number v.place.bank ∷ bs) (banks_append ws w)
 
 -- no more requests were taken than commands came, and those that wait
-pub few_offered : (c : State) (h : Header) (offered : List Request) (idle : ℕ) (log : List Step) → Holds h c offered idle log → c.offered ≤ 2 ^ 48 + 32
+pub few_offered : (c : State) (h : Header) (offered : List Request) (idle : ℕ) (log : List Step) → BetweenTurns h c offered idle log → c.offered ≤ 2 ^ 48 + 32
 few_offered c h offered idle log s =
     let served = count_by-le-length (λ place. is_column place.command) (places log) in
     let same = length-places log in
@@ -60,7 +60,7 @@ same_excuse task finished ws vs b e f = go (is_covered task b) finished (none_wa
     go false true l m e f = cc
     go false false l m e f = cc
 
-pub offered_more : (offers : OfferLaw) (excuses : ExcuseLaw) (banks : BankLaw) (c : State) (h : Header) (offered : List Request) (idle : ℕ) (log : List Step) (r : Request) (w : Waiting) (q : ArrayVec Waiting) (n : ℕ) → Holds h c offered idle log → c.finished ≡ false → r.line < lines_of (shape_of h) → (IsFull (length offered) (waiting h offered log) → ⊥) → n ≡ c.offered + 1 → w ≡ waiting_as (shape_of h) n r → q.items ≡ c.queue.items ++ w ∷ [] → Holds h (record c { queue = q; offered = n }) (offered ++ r ∷ []) idle log
+pub offered_more : (offers : OfferLaw) (excuses : ExcuseLaw) (banks : BankLaw) (c : State) (h : Header) (offered : List Request) (idle : ℕ) (log : List Step) (r : Request) (w : Waiting) (q : ArrayVec Waiting) (n : ℕ) → BetweenTurns h c offered idle log → c.finished ≡ false → r.line < lines_of (shape_of h) → (IsFull (length offered) (waiting h offered log) → ⊥) → n ≡ c.offered + 1 → w ≡ waiting_as (shape_of h) n r → q.items ≡ c.queue.items ++ w ∷ [] → BetweenTurns h (record c { queue = q; offered = n }) (offered ++ r ∷ []) idle log
 offered_more offers excuses banks c h offered idle log r w q n s unfinished inside room next is items =
     let number : n ≡ length offered + 1 = next ∙ ap (λ k. k + 1) s.count in
     let own : w ≡ waiting_as (shape_of h) (length offered + 1) r = is ∙ ap (λ k. waiting_as (shape_of h) k r) number in
@@ -99,7 +99,7 @@ end_excuse task finished ws b e = go (is_covered task b) finished (none_wait ws)
     go false true l e = e
     go false false l e = cc
 
-pub finishes : (excuses : ExcuseLaw) (c : State) (h : Header) (offered : List Request) (idle : ℕ) (log : List Step) → Holds h c offered idle log → Holds h (record c { finished = true }) offered idle log
+pub finishes : (excuses : ExcuseLaw) (c : State) (h : Header) (offered : List Request) (idle : ℕ) (log : List Step) → BetweenTurns h c offered idle log → BetweenTurns h (record c { finished = true }) offered idle log
 finishes excuses c h offered idle log s = record {
   accepted = s.accepted;
   header = s.header;
@@ -123,7 +123,7 @@ abbrev pub IdleLaw : Type 0
 IdleLaw = (h : Header) (log : Log) (task : Option Task) (now until idle clocks : ℕ) (waiting : List ℕ) (n : ℕ)
     → Keeps h log task now until idle waiting n → Keeps h log task now (now + clocks) (idle + clocks) waiting n
 
-pub idles : (idle_line : IdleLaw) (c : State) (h : Header) (offered : List Request) (idle : ℕ) (log : List Step) (clocks : ℕ) → Holds h c offered idle log → c.ledger.from + clocks < 2 ^ 47 → Holds h (record c { until = c.ledger.from + clocks }) offered (idle + clocks) log
+pub idles : (idle_line : IdleLaw) (c : State) (h : Header) (offered : List Request) (idle : ℕ) (log : List Step) (clocks : ℕ) → BetweenTurns h c offered idle log → c.ledger.from + clocks < 2 ^ 47 → BetweenTurns h (record c { until = c.ledger.from + clocks }) offered (idle + clocks) log
 idles idle_line c h offered idle log clocks s near = record {
   accepted = s.accepted;
   header = s.header;

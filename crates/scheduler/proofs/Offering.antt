@@ -20,7 +20,7 @@ use Rattle.requests.specs.declared.waiting.Waiting.{Waiting}
 use Rattle.deadlines.specs.Turns.{ServesRequest, Serves, Column as ServesColumn, Activates, Precharges}
 use Rattle.deadlines.specs.declared.task.Task.{Task}
 use Rattle.scheduler.specs.Choice.{Wants, IsBest, command_for}
-use Rattle.scheduler.specs.Controller.{Holds, banks_of, excused}
+use Rattle.scheduler.specs.Controller.{BetweenTurns, banks_of, excused}
 use Rattle.scheduler.specs.Laws.{Laws}
 use Rattle.scheduler.specs.Steps.{IsAwake, IsFree, IsReadyFor, all_asked, id_for, queue_after}
 use Rattle.scheduler.specs.declared.choice.Candidate.{Candidate}
@@ -36,7 +36,7 @@ use Rattle.scheduler.proofs.Parts.{length-places, at_least, not_empty, hit_of, f
 pub record IsSoon (clock start : ℕ) : Type 0 where
   pub within : clock + 1 ≤ start + 16384
 
-pub soon_of : (laws : Laws) (c : State) (h : Header) (offered : List Request) (idle : ℕ) (log : List Step) (start clock : ℕ) (command : Command) → Holds h c offered idle log → c.ledger.from ≤ start → IsSoonest h (places log) start command clock → IsSoon clock start
+pub soon_of : (laws : Laws) (c : State) (h : Header) (offered : List Request) (idle : ℕ) (log : List Step) (start clock : ℕ) (command : Command) → BetweenTurns h c offered idle log → c.ledger.from ≤ start → IsSoonest h (places log) start command clock → IsSoon clock start
 soon_of laws c h offered idle log start clock command s le e =
     let a = laws.deadlines.within h (places log) c.task c.ledger.from c.until idle (banks_of c.queue.items) (length offered) s.accepted s.deadlines start clock command le e in
     let b = laws.deadlines.small h s.accepted in

@@ -21,9 +21,9 @@ use Rattle.deadlines.specs.declared.task.Task.TheVariants.{RfmAll}
 use Rattle.scheduler.specs.Backoff.{Offers, OffersColumn, OffersActivate, OffersPrecharge, IsFirstClock, IsPressed, TaskIsSet, NoneWaits, WindowEnds, ScrubIsDue, RefreshIsDue, RfmIsWanted, AnswersAlert, issues_rfm_all}
 use Rattle.scheduler.specs.Board.{first_from, first_at}
 use Rattle.scheduler.specs.Choice.{Wants, IsBest, command_for}
-use Rattle.scheduler.specs.Controller.{Holds, excused}
+use Rattle.scheduler.specs.Controller.{BetweenTurns, excused}
 use Rattle.scheduler.specs.Laws.{Laws}
-use Rattle.scheduler.specs.Steps.{IsAwake, IsChoice, IsFree, Waits, Urges, UrgesTask, UrgesAlone, UrgesWindow, UrgesScrub, UrgesRefresh, UrgesRfm, all_asked, soonest_in}
+use Rattle.scheduler.specs.Steps.{IsAwake, IsChoice, IsFree, MayWait, Urges, UrgesTask, UrgesAlone, UrgesWindow, UrgesScrub, UrgesRefresh, UrgesRfm, all_asked, soonest_in}
 use Rattle.scheduler.specs.declared.choice.Candidate.{Candidate}
 use Rattle.scheduler.specs.declared.choice.Class.{Class}
 use Rattle.scheduler.specs.declared.choice.Class.TheVariants.{Column, Activate, Precharge}
@@ -114,7 +114,7 @@ offers_of Precharge ws log b at w wants here =
     }) first refl
 
 -- the best candidate's clock is e0
-first_clock : (laws : Laws) (c : State) (h : Header) (offered : List Request) (idle : ℕ) (log : List Step) (candidate : Candidate) → Holds h c offered idle log → IsBest h c.queue.items (places log) c.ledger.from all_asked candidate → IsFirstClock h c.queue.items (places log) c.ledger.from candidate.clock
+first_clock : (laws : Laws) (c : State) (h : Header) (offered : List Request) (idle : ℕ) (log : List Step) (candidate : Candidate) → BetweenTurns h c offered idle log → IsBest h c.queue.items (places log) c.ledger.from all_asked candidate → IsFirstClock h c.queue.items (places log) c.ledger.from candidate.clock
 first_clock laws c h offered idle log candidate s best =
     let i = best.is_candidate in record {
       command = command_for candidate.class i.waiting;
@@ -149,11 +149,11 @@ none_of : (o : Option Task) → o ≡ None → IsSome o → ⊥
 none_of None e f = cc
 none_of (Some x) e f = cc
 
-pub not_pressed : (c : State) (h : Header) (offered : List Request) (idle : ℕ) (log : List Step) (choice : Option Candidate) (soonest raised : ℕ) → IsAwake c h offered idle log → IsChoice c h (places log) choice → soonest ≡ soonest_in choice c.ledger.from c.until → Waits c h (places log) choice soonest raised → IsPressed h (waiting h offered log) (places log) c.ledger.from c.task raised → ⊥
+pub not_pressed : (c : State) (h : Header) (offered : List Request) (idle : ℕ) (log : List Step) (choice : Option Candidate) (soonest raised : ℕ) → IsAwake c h offered idle log → IsChoice c h (places log) choice → soonest ≡ soonest_in choice c.ledger.from c.until → MayWait c h (places log) choice soonest raised → IsPressed h (waiting h offered log) (places log) c.ledger.from c.task raised → ⊥
 not_pressed c h offered idle log choice soonest raised a i e waits pressed =
     go choice i e waits (subst (λ ws. IsPressed h ws (places log) c.ledger.from c.task raised) (sym a.holds.requested.waits) pressed)
   where
-    go : (o : Option Candidate) → IsChoice c h (places log) o → soonest ≡ soonest_in o c.ledger.from c.until → Waits c h (places log) o soonest raised → IsPressed h c.queue.items (places log) c.ledger.from c.task raised → ⊥
+    go : (o : Option Candidate) → IsChoice c h (places log) o → soonest ≡ soonest_in o c.ledger.from c.until → MayWait c h (places log) o soonest raised → IsPressed h c.queue.items (places log) c.ledger.from c.task raised → ⊥
     go None i e w p = let some = w.candidate in cc
     go (Some candidate) i e w (TaskIsSet some) = none_of c.task w.untasked some
     go (Some candidate) i e w (NoneWaits none) = not_empty c.queue.items candidate.at i.is_candidate.waiting i.is_candidate.here none
@@ -169,7 +169,7 @@ not_pressed c h offered idle log choice soonest raised a i e waits pressed =
     go (Some candidate) i e w (RfmIsWanted wanted) = let none = w.no_management in cc
 
 -- where no task is to be served, a raised alert waits
-pub waits_of : (c : State) (h : Header) (log : Log) (choice : Option Candidate) (soonest raised : ℕ) → alert h log ≡ Some raised → IsFree c h log choice soonest → Waits c h log choice soonest raised
+pub waits_of : (c : State) (h : Header) (log : Log) (choice : Option Candidate) (soonest raised : ℕ) → alert h log ≡ Some raised → IsFree c h log choice soonest → MayWait c h log choice soonest raised
 waits_of c h log choice soonest raised e f = record {
   untasked = f.untasked;
   candidate = f.candidate raised e;

@@ -16,7 +16,7 @@ use Rattle.requests.specs.declared.request.Request.{Request}
 use Rattle.requests.specs.declared.waiting.Waiting.{Waiting}
 use Rattle.deadlines.specs.Standing.{Keeps}
 use Rattle.deadlines.specs.declared.task.Task.{Task}
-use Rattle.scheduler.specs.Controller.{Holds, IsSeen, IsTasked, Issues, StandsFor, banks_of, excused, from_of}
+use Rattle.scheduler.specs.Controller.{BetweenTurns, IsSeen, IsTasked, Issues, StandsFor, banks_of, excused, from_of}
 use Rattle.scheduler.specs.Laws.{Laws, Kept}
 use Rattle.scheduler.specs.Ledger.{StandsFor as LedgerStandsFor, Suits}
 use Rattle.scheduler.specs.Choice.{command_for}
@@ -95,7 +95,7 @@ write_leaves b Nop e = cc
 sound_after : (h : Header) (place : Issued) (log : Log) → verdict h log ≡ None → broken h place.clock place.command log ≡ None → verdict h (place ∷ log) ≡ None
 sound_after h place log e f = rw (e, f) refl
 
-pub holds_after : (laws : Laws) (c : State) (from until : ℕ) (finished : Bool) (h : Header) (offered : List Request) (idle : ℕ) (log : List Step) (clock : ℕ) (command : Command) (id : Option ℕ) (next : Option Task) (queue : List Waiting) (ledger : Ledger) (raised : Option ℕ) (q : ArrayVec Waiting) → IsReady c from until finished h offered idle log clock command id next queue → LedgerStandsFor ledger h (record { clock = clock; command = command } ∷ places log) → ledger.from ≡ clock + 1 → raised ≡ alert_left command c.alert → q.items ≡ queue → Holds h (record c { ledger = ledger; alert = raised; queue = q; task = next }) offered idle (record { issued = record { clock = clock; command = command }; id = id } ∷ log)
+pub holds_after : (laws : Laws) (c : State) (from until : ℕ) (finished : Bool) (h : Header) (offered : List Request) (idle : ℕ) (log : List Step) (clock : ℕ) (command : Command) (id : Option ℕ) (next : Option Task) (queue : List Waiting) (ledger : Ledger) (raised : Option ℕ) (q : ArrayVec Waiting) → IsReady c from until finished h offered idle log clock command id next queue → LedgerStandsFor ledger h (record { clock = clock; command = command } ∷ places log) → ledger.from ≡ clock + 1 → raised ≡ alert_left command c.alert → q.items ≡ queue → BetweenTurns h (record c { ledger = ledger; alert = raised; queue = q; task = next }) offered idle (record { issued = record { clock = clock; command = command }; id = id } ∷ log)
 holds_after laws c from until finished h offered idle log clock command id next queue ledger raised q r stands at left items =
     let k = kept_of laws c from until finished h offered idle log clock command id next queue r in
     let s = r.holds in
@@ -129,7 +129,7 @@ issues_of laws c new from until finished h offered idle log clock command id nex
   prompt = r.prompt;
   busy = r.busy;
   now = at;
-  stands = subst (λ (x : State). Holds h x offered idle (record { issued = record { clock = clock; command = command }; id = id } ∷ log)) (sym same) (holds_after laws c from until finished h offered idle log clock command id next queue new.ledger new.alert q r stands at left items);
+  stands = subst (λ (x : State). BetweenTurns h x offered idle (record { issued = record { clock = clock; command = command }; id = id } ∷ log)) (sym same) (holds_after laws c from until finished h offered idle log clock command id next queue new.ledger new.alert q r stands at left items);
 }
 
 id_column : (k : Class) (w : Waiting) → k ≡ Column → id_for k w ≡ Some w.id

@@ -15,7 +15,7 @@ use Rattle.requests.specs.declared.waiting.Waiting.{Waiting}
 use Rattle.deadlines.specs.Standing.{Keeps}
 use Rattle.deadlines.specs.Turns.{ClosesAtEnd}
 use Rattle.deadlines.specs.declared.task.Task.{Task}
-use Rattle.scheduler.specs.Controller.{Holds, IsCalm, AtRest, IsSeen, IsTasked, Rests, StandsFor, from_of, banks_of, excused, none_wait}
+use Rattle.scheduler.specs.Controller.{BetweenTurns, IsCalm, AtRest, IsSeen, IsTasked, Rests, StandsFor, from_of, banks_of, excused, none_wait}
 use Rattle.scheduler.specs.Laws.{Laws}
 use Rattle.scheduler.specs.Steps.{IsReadySoon, IsResting, with_from}
 use Rattle.scheduler.specs.declared.choice.Candidate.{Candidate}
@@ -59,7 +59,7 @@ seen_none (Some y) a from e f = sym e
 abbrev pub rested : State → State
 rested c = with_from (max c.ledger.from c.until) c
 
-pub holds_rested : (laws : Laws) (c : State) (h : Header) (offered : List Request) (idle : ℕ) (log : List Step) → IsResting c h offered idle log → c.ledger.from < 2 ^ 47 → Holds h (rested c) offered idle log
+pub holds_rested : (laws : Laws) (c : State) (h : Header) (offered : List Request) (idle : ℕ) (log : List Step) → IsResting c h offered idle log → c.ledger.from < 2 ^ 47 → BetweenTurns h (rested c) offered idle log
 holds_rested laws c h offered idle log r bound =
     let s = r.awake.holds in
     let l = s.ledger in
@@ -98,7 +98,7 @@ unfolding StandsFor from_of
 rests_of laws c new h offered idle log r bound same = record {
   rest = rest_of c h offered idle log r;
   now = ap (λ (x : State). x.ledger.from) same;
-  stands = subst (λ (x : State). Holds h x offered idle log) (sym same) (holds_rested laws c h offered idle log r bound);
+  stands = subst (λ (x : State). BetweenTurns h x offered idle log) (sym same) (holds_rested laws c h offered idle log r bound);
 }
 
 -- ---- The end

@@ -61,7 +61,7 @@ excused task finished queue b = is_covered task b || (finished && none_wait queu
 abbrev pub banks_of : List Waiting → List ℕ
 banks_of ws = map (λ w. bank_number w.place.bank) ws
 
-pub record Holds (h : Header) (c : State) (offered : List Request) (idle : ℕ) (log : List Step) : Type 0 where
+pub record BetweenTurns (h : Header) (c : State) (offered : List Request) (idle : ℕ) (log : List Step) : Type 0 where
   pub accepted : IsAccepted h
   pub header : c.header ≡ h
   pub writes : c.writes.items ≡ register_writes h.settings
@@ -81,7 +81,7 @@ pub record Holds (h : Header) (c : State) (offered : List Request) (idle : ℕ) 
 
 -- the controller stands for them; how is its own affair
 unfoldable pub StandsFor : Header → State → List Request → ℕ → List Step → Type 0
-StandsFor h c offered idle log = Holds h c offered idle log
+StandsFor h c offered idle log = BetweenTurns h c offered idle log
 
 -- it stands for some list
 abbrev pub StandsForSome : State → Type 0

@@ -22,7 +22,7 @@ use Rattle.deadlines.specs.Turns.{Decides, IsEcsDue, Turn}
 use Rattle.deadlines.specs.declared.task.Task.{Task}
 use Rattle.deadlines.specs.declared.task.Task.TheVariants.{RefAll, RefSame}
 use Rattle.scheduler.specs.Choice.{IsBest, command_for}
-use Rattle.scheduler.specs.Controller.{Holds, IsCalm, IsTasked, AtRest, banks_of, excused}
+use Rattle.scheduler.specs.Controller.{BetweenTurns, IsCalm, IsTasked, AtRest, banks_of, excused}
 use Rattle.scheduler.specs.Ledger.{StandsFor as LedgerStandsFor}
 use Rattle.scheduler.specs.declared.choice.Candidate.{Candidate}
 use Rattle.scheduler.specs.declared.choice.Class.{Class}
@@ -32,7 +32,7 @@ use Rattle.scheduler.specs.declared.task.Errand.{Errand}
 
 -- the controller stands for the log, and has seen the alert
 pub record IsAwake (c : State) (h : Header) (offered : List Request) (idle : ℕ) (log : List Step) : Type 0 where
-  pub holds : Holds h c offered idle log
+  pub holds : BetweenTurns h c offered idle log
   pub seen : c.alert ≡ alert h (places log)
 
 -- the controller with this least clock of the next command
@@ -44,7 +44,7 @@ with_from from c = record c { ledger = record c.ledger { from = from } }
 -- All that is known of a command before it is issued, at this clock and for this request, by a turn that began with this
 -- least clock, this idle target and this announcement of the end. It leaves this task and this queue.
 pub record IsReady (c : State) (from until : ℕ) (finished : Bool) (h : Header) (offered : List Request) (idle : ℕ) (log : List Step) (clock : ℕ) (command : Command) (id : Option ℕ) (next : Option Task) (queue : List Waiting) : Type 0 where
-  pub holds : Holds h (with_from from c) offered idle log
+  pub holds : BetweenTurns h (with_from from c) offered idle log
   pub seen : c.alert ≡ alert h (places log)
   pub waited : from ≤ c.ledger.from
   pub late : c.ledger.from ≤ clock
@@ -119,7 +119,7 @@ pub record IsFree (c : State) (h : Header) (log : Log) (choice : Option Candidat
   pub window : (raised : ℕ) → alert h log ≡ Some raised → soonest ≤ raised + h.timing.nabo
 
 -- what is so while the alert that was raised at this clock is not answered yet
-pub record Waits (c : State) (h : Header) (log : Log) (choice : Option Candidate) (soonest raised : ℕ) : Type 0 where
+pub record MayWait (c : State) (h : Header) (log : Log) (choice : Option Candidate) (soonest raised : ℕ) : Type 0 where
   pub untasked : c.task ≡ None
   pub candidate : IsSome choice
   pub window : soonest ≤ raised + h.timing.nabo
@@ -138,7 +138,7 @@ pub data Urges (c : State) (h : Header) (log : Log) (choice : Option Candidate) 
 
 -- no alert has to be answered
 abbrev pub IsPatient : State → Header → Log → Option Candidate → ℕ → Type 0
-IsPatient c h log choice soonest = (raised : ℕ) → alert h log ≡ Some raised → Waits c h log choice soonest raised
+IsPatient c h log choice soonest = (raised : ℕ) → alert h log ≡ Some raised → MayWait c h log choice soonest raised
 
 -- the task of a refresh that is due
 abbrev pub refresh_task : Due → Task

@@ -10,7 +10,7 @@ ghost use Rattle.command_words.specs.declared.command.Mrw.{Mrw as Write};
 ghost use Rattle.requests.specs.Queue.{Step, places, waiting};
 ghost use Rattle.requests.specs.declared.request.Request.{Request as AnyRequest};
 ghost use Rattle.scheduler.specs.declared.choice.Class.TheVariants.{Column};
-ghost use Rattle.scheduler.specs.Controller.{Holds, StandsFor, IsTold, After, AtRest, from_of, until_of, finished_of, task_of};
+ghost use Rattle.scheduler.specs.Controller.{BetweenTurns, StandsFor, IsTold, After, AtRest, from_of, until_of, finished_of, task_of};
 ghost use Rattle.scheduler.specs.Backoff.{AnswersAlert, IsPressed, issues_rfm_all};
 ghost use Rattle.scheduler.specs.Ledger.{StandsFor as LedgerStandsFor, MayIssue, Suits};
 ghost use Rattle.scheduler.specs.Steps.{IsAwake, IsReady, IsReadySoon, IsReadyFor, IsErrand, IsServing, IsResting, alert_left};
@@ -65,7 +65,7 @@ impl State {
     // An alert that was not seen before came with the last command.
     fn see(&mut self, alert: bool)
         requires { IsTold self.old alert }
-        ensures awake { (h : AnyHeader) (offered : List AnyRequest) (idle : ℕ) (log : List Step) → Holds h self.old offered idle log → alert ≡ is_some (alert_of h (places log))
+        ensures awake { (h : AnyHeader) (offered : List AnyRequest) (idle : ℕ) (log : List Step) → BetweenTurns h self.old offered idle log → alert ≡ is_some (alert_of h (places log))
             → IsAwake self.new h offered idle log }
         ensures rest { self.new ≡ record self.old { alert = self.new.alert } }
     {

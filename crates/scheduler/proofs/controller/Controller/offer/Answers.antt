@@ -5,7 +5,7 @@ use Rattle.command_words.specs.Geometry.{Shape, lines_of}
 use Rattle.speed_bin.specs.Header.{shape_of}
 use Rattle.speed_bin.specs.declared.header.Header.{Header}
 use Rattle.requests.specs.Queue.{waiting_as}
-use Rattle.scheduler.specs.Controller.{Holds, StandsFor, finished_of, header_of}
+use Rattle.scheduler.specs.Controller.{BetweenTurns, StandsFor, finished_of, header_of}
 use Rattle.scheduler.specs.declared.state.State.{State}
 use Rattle.scheduler.proofs.Offered.{offered_more, few_offered}
 use Rattle.scheduler.proofs.controller.Controller.offer.Goals as goal
@@ -41,7 +41,7 @@ pub returns-clause-ok : goal.returns-clause-ok
 unfolding StandsFor finished_of header_of
 returns-clause-ok c = λ h offered idle log stands.
     let self = c.self.inside.state in
-    let s = subst (λ (x : State). Holds h x offered idle log) (sym c.self.view_is) stands in
+    let s = subst (λ (x : State). BetweenTurns h x offered idle log) (sym c.self.view_is) stands in
     let unfinished = subst (λ (x : State). x.finished ≡ false) (sym c.self.view_is) c.requires.unfinished in
     let inside = subst (λ (x : State). c.args.request.line < lines_of (shape_of x.header)) (sym c.self.view_is) c.requires.inside in
     let shape = c.geometry.ensures ∙ ap (λ (x : Header). shape_of x) s.header in
