@@ -2,7 +2,14 @@
 
 from collections import deque
 
-ACT, WR = 0b00, 0x0D  # the low two bits of an ACT's first word, and the low five of a WR's
+ACT = 0b00  # the low two bits of the first word
+RD, WR = 0x1D, 0x0D  # the low five bits
+ECS = 0x018F  # the whole word
+
+
+def words_of(fields):
+    """The words of a C line."""
+    return [int(word, 16) for word in fields[2:]]
 
 
 class Opened:
@@ -18,18 +25,18 @@ class Opened:
 
 
 class OpenRows:
-    """The open row of each bank, and with it the line that a WR writes."""
+    """The open row of each bank, and with it the line that an RD reads or a WR writes."""
 
     def __init__(self, groups):
         self.groups, self.rows = groups, {}
 
-    def written(self, words):
-        """The line that a WR writes; None for any other command."""
+    def taken(self, words):
+        """The line that an RD reads or a WR writes; None for any other command."""
         first, second = words[0], words[-1]
         bank, column = (first >> 8 & 7, first >> 6 & 3), second >> 2 & 63
         if first & 3 == ACT:
             self.rows[bank] = first >> 2 & 15 | (second & 0xFFF) << 4
-        if first & 31 != WR:
+        if first & 31 not in (RD, WR):
             return None
         return ((self.rows[bank] * 64 + column) * 4 + bank[1]) * self.groups + bank[0]
 
@@ -49,9 +56,10 @@ def script_lines(job, report):
     for number, fields in enumerate(report.lines, 1):
         if fields[0] == b"C":
             yield number, b" ".join(fields)
-            written = rows.written([int(word, 16) for word in fields[2:]])
-            if written is not None:
-                yield number, b"B " + data[written].popleft()
+            words = words_of(fields)
+            place = rows.taken(words)
+            if words[0] & 31 == WR:
+                yield number, b"B " + data[place].popleft()
         elif fields[0] == b"F":
             yield number, b" ".join([b"F", *fields[2:]])
         elif fields[0] == b"E":

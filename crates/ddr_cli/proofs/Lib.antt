@@ -1,10 +1,10 @@
-pub mod CapWords
 mod Copied
 mod Ended
 mod Newer
 pub mod MadeJob
 pub mod MadeRun
 pub mod MadeWords
+pub mod NumberWords
 pub mod OneWord
 pub mod BehindLemmas
 pub mod ShowLemmas

@@ -2,9 +2,9 @@
 use Rattle.std.proofs.Common.{◌≡◌, ◌∙◌, ◌≤◌, ◌<◌, ℕ, List, [], ◌∷◌, String, Some, None, inl, inr, refl, length, get_or, map, string_bytes, sym, ap, arith}
 use Rattle.std.specs.declared.alloc.Global.{Global}
 use Rattle.std.specs.declared.option.Option.{Option}
-use Rattle.ddr_cli.specs.Words.{AskForPorts, IsReplay, IsAudit, IsShow, IsUpgrade, IsExec, Makes, IsOfForm, IsFoundIn}
+use Rattle.ddr_cli.specs.Words.{AskForPorts, IsReplay, IsAudit, IsShow, IsUpgrade, IsExec, IsSpare, Makes, IsOfForm, IsFoundIn}
 use Rattle.ddr_cli.specs.declared.form.Form.{Form}
-use Rattle.ddr_cli.specs.declared.form.Form.TheVariants.{Replay, Audit, Show, Upgrade, Gen, GenRun, Ports, Merge, Exec}
+use Rattle.ddr_cli.specs.declared.form.Form.TheVariants.{Replay, Audit, Show, Upgrade, Gen, GenRun, Ports, Merge, Exec, Spare}
 
 -- a list of one element
 pub only_one : {X : Type 0} (xs : List X) (x : X) → 1 ≤ length xs → length xs < 2 → x ≡ get_or xs 0 x → xs ≡ x ∷ []
@@ -17,11 +17,11 @@ pub first_word : (words : List (String Global)) (word : String Global) (bytes : 
 first_word [] word bytes rest some is e = let no : ⊥ = omega (arith, some) in absurd no
 first_word (other ∷ words) word bytes rest some is e = ap string_bytes is ∙ cc
 
--- where no one word was found, all rests on the words that make a job, or ask for ports
-pub found_at_last : (words : List (String Global)) (found : Option Form) → ((it : Form) → found ≡ Some it → IsOfForm words it) → (found ≡ None → ¬ (Makes words)) → (found ≡ None → ¬ (AskForPorts words))
+-- where no one word was found, all rests on the words that make a job, ask for ports, or name a dead device
+pub found_at_last : (words : List (String Global)) (found : Option Form) → ((it : Form) → found ≡ Some it → IsOfForm words it) → (found ≡ None → ¬ (Makes words)) → (found ≡ None → ¬ (AskForPorts words)) → (found ≡ None → (dead : ℕ) → ¬ (IsSpare words dead))
     → ¬ (IsReplay words) → ¬ (IsAudit words) → ¬ (IsShow words) → ¬ (IsUpgrade words) → ¬ (IsExec words) → IsFoundIn words found
-found_at_last words (Some it) is none none_ported replay audit show upgrade exec = is it refl
-found_at_last words None is none none_ported replay audit show upgrade exec = λ listed. go listed.0 listed.1
+found_at_last words (Some it) is none none_ported none_spared replay audit show upgrade exec = is it refl
+found_at_last words None is none none_ported none_spared replay audit show upgrade exec = λ listed. go listed.0 listed.1
   where
     go : (it : Form) → IsOfForm words it → ⊥
     go Replay it = replay it
@@ -33,3 +33,4 @@ found_at_last words None is none none_ported replay audit show upgrade exec = λ
     go (Ports cap) it = none_ported refl (cap, inl it)
     go (Merge cap) it = none_ported refl (cap, inr it)
     go Exec it = exec it
+    go (Spare dead) it = none_spared refl dead it

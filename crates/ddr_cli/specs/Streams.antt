@@ -10,6 +10,7 @@ use Rattle.fair_queue.specs.Serving.{PortsAnswers}
 use Rattle.log_auditor.specs.Findings.{Answers as AuditAnswers}
 use Rattle.made_jobs.specs.Made.{made}
 use Rattle.made_jobs.specs.Writing.{Writes}
+use Rattle.spare_device.specs.Spared.{IsSpared}
 use Rattle.trace_replay.specs.Replay.{Answers}
 use Rattle.ddr_cli.specs.AtEnd.{IsAnswer}
 use Rattle.ddr_cli.specs.Made.{MadeAnswers}
@@ -29,6 +30,7 @@ IsDone (form.GenRun seed requests) it left rest had has = MadeAnswers it seed re
 IsDone (form.Ports cap) it left rest had has = PortsAnswers cap it left rest had has
 IsDone (form.Merge cap) it left rest had has = MergeAnswers cap it left rest had has
 IsDone form.Exec it left rest had has = AnswersAs (IsExecuted left) it left rest had has
+IsDone (form.Spare dead) it left rest had has = AnswersAs (IsSpared dead left) it left rest had has
 
 -- what a reader gave is answered with this status; nothing is said of what was written
 abbrev pub IsDoneFor : Form → Option (List ℕ) → Status → Type 0

@@ -28,10 +28,6 @@ IsUpgrade words = map string_bytes words ≡ codes "upgrade" ∷ []
 abbrev pub IsExec : List (String Global) → Type 0
 IsExec words = map string_bytes words ≡ codes "exec" ∷ []
 
--- the words ask for the rules of a log
-abbrev pub AskForRules : List (String Global) → Type 0
-AskForRules words = IsAudit words ⊎ IsExec words
-
 -- the words are `gen`, and then two that spell the seed and the number of requests
 abbrev pub IsGen : List (String Global) → ℕ → ℕ → Type 0
 IsGen words seed requests = (rest : List (List ℕ)) × (map string_bytes words ≡ codes "gen" ∷ rest) × (seed_and_requests rest ≡ Some (seed, requests))
@@ -44,20 +40,24 @@ IsGenRun words seed requests = (rest : List (List ℕ)) × (map string_bytes wor
 abbrev pub Makes : List (String Global) → Type 0
 Makes words = (seed : ℕ) × (requests : ℕ) × (IsGen words seed requests ⊎ IsGenRun words seed requests)
 
--- a cap is 1 to 32
-abbrev pub cap_in : Result ℕ LineFault → Option ℕ
-cap_in (Ok number) = if nat_le 1 number && nat_le number 32 then Some number else None
-cap_in (Err fault) = None
+-- the number, where it is in this range
+abbrev pub number_in : ℕ → ℕ → Result ℕ LineFault → Option ℕ
+number_in least most (Ok number) = if nat_le least number && nat_le number most then Some number else None
+number_in least most (Err fault) = None
 
--- the cap of the words, of which there is to be one
-unfoldable pub cap_of : List (List ℕ) → Option ℕ
-cap_of [] = None
-cap_of (word ∷ []) = cap_in (number_of word)
-cap_of (word ∷ other ∷ more) = None
+-- the number of the words, of which there is to be one, in this range
+unfoldable pub only_number : ℕ → ℕ → List (List ℕ) → Option ℕ
+only_number least most [] = None
+only_number least most (word ∷ []) = number_in least most (number_of word)
+only_number least most (word ∷ other ∷ more) = None
 
--- the words are this one, and then one that spells the cap
+-- the words are this one, and then one that spells the number, which is in this range
+abbrev pub HasNumber : ℕ → ℕ → List ℕ → List (String Global) → ℕ → Type 0
+HasNumber least most word words number = (rest : List (List ℕ)) × (map string_bytes words ≡ word ∷ rest) × (only_number least most rest ≡ Some number)
+
+-- the words are this one, and then one that spells the cap, 1 to 32
 abbrev pub HasCap : List ℕ → List (String Global) → ℕ → Type 0
-HasCap word words cap = (rest : List (List ℕ)) × (map string_bytes words ≡ word ∷ rest) × (cap_of rest ≡ Some cap)
+HasCap word words cap = HasNumber 1 32 word words cap
 
 -- the first of two words is `ports`
 abbrev pub IsPorts : List (String Global) → ℕ → Type 0
@@ -71,6 +71,14 @@ IsMerge words cap = HasCap (codes "merge") words cap
 abbrev pub AskForPorts : List (String Global) → Type 0
 AskForPorts words = (cap : ℕ) × (IsPorts words cap ⊎ IsMerge words cap)
 
+-- the first of two words is `spare`, and the other spells the dead device, 0 to 4
+abbrev pub IsSpare : List (String Global) → ℕ → Type 0
+IsSpare words dead = HasNumber 0 4 (codes "spare") words dead
+
+-- the words ask for the rules of a log
+abbrev pub AskForRules : List (String Global) → Type 0
+AskForRules words = IsAudit words ⊎ IsExec words ⊎ ((dead : ℕ) × IsSpare words dead)
+
 -- the words are of the form
 abbrev pub IsOfForm : List (String Global) → Form → Type 0
 IsOfForm words form.Replay = IsReplay words
@@ -82,6 +90,7 @@ IsOfForm words (form.GenRun seed requests) = IsGenRun words seed requests
 IsOfForm words (form.Ports cap) = IsPorts words cap
 IsOfForm words (form.Merge cap) = IsMerge words cap
 IsOfForm words form.Exec = IsExec words
+IsOfForm words (form.Spare dead) = IsSpare words dead
 
 -- the words are of one of the forms
 abbrev pub IsListed : List (String Global) → Type 0

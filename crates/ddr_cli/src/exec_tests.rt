@@ -1,4 +1,5 @@
-//! Scripts: what the program writes of them, and of the log of a replay with the data of its writes.
+//! Scripts: what the program writes of them, with four devices and with five, and of the log of a replay with the data of its
+//! writes.
 use crate::run;
 use ddr_io::{MemorySink, MemorySource, Status};
 use std::alloc::Global;
@@ -60,10 +61,12 @@ const ROWS: [(&str, &str, Status); 10] = [
     ("C 32 000b\n", "C 32 000b\nX 10 19\n", Status::Refused),
 ];
 
-// Runs the program with this word on these bytes, of which a read gives 32.
-fn run_with(alloc: Global, word: &str, input: &str) -> Result<(Status, MemorySink), Fail> {
+// Runs the program with these words on these bytes, of which a read gives 32.
+fn run_with(alloc: Global, words: &[&str], input: &str) -> Result<(Status, MemorySink), Fail> {
     let mut line = Vec::new(alloc);
-    line.push(String::from_str(alloc, word)?)?;
+    for word in words {
+        line.push(String::from_str(alloc, word)?)?;
+    }
     let mut source = MemorySource::new(input.as_bytes().to_vec(alloc)?, 32, Vec::new(alloc));
     let mut sink = MemorySink::new(alloc, Vec::new(alloc));
     let status = run(alloc, &line, &mut source, &mut sink);
@@ -89,7 +92,7 @@ fn opened(alloc: Global, lines: &str) -> Result<String, Fail> {
 fn scripts_are_run(rt: HostRuntime) -> Result<(), Fail> {
     let alloc = rt.alloc();
     for (lines, written, answer) in ROWS {
-        let (status, made) = run_with(alloc, "exec", &opened(alloc, lines)?)?;
+        let (status, made) = run_with(alloc, &["exec"], &opened(alloc, lines)?)?;
         assert_eq!(rt; status, answer);
         assert_eq!(rt; made.bytes(), opened(alloc, written)?.as_bytes());
     }
@@ -101,7 +104,7 @@ fn an_end_alone_is_broken(rt: HostRuntime) -> Result<(), Fail> {
     let alloc = rt.alloc();
     let script = format!(in alloc; "{OPENING}E 55\n")?;
     let wanted = format!(in alloc; "{OPENING}A broken 1 14\n")?;
-    let (status, made) = run_with(alloc, "exec", &script)?;
+    let (status, made) = run_with(alloc, &["exec"], &script)?;
     assert_eq!(rt; status, Status::Broken);
     assert_eq!(rt; made.bytes(), wanted.as_bytes());
     Ok(())
@@ -109,7 +112,96 @@ fn an_end_alone_is_broken(rt: HostRuntime) -> Result<(), Fail> {
 
 #[test]
 fn a_refused_opening_of_a_script_is_told(rt: HostRuntime) -> Result<(), Fail> {
-    let (status, made) = run_with(rt.alloc(), "exec", "format = 1\n")?;
+    let (status, made) = run_with(rt.alloc(), &["exec"], "format = 1\n")?;
+    assert_eq!(rt; status, Status::Refused);
+    assert_eq!(rt; made.bytes(), b"X 0 16\n".as_slice());
+    Ok(())
+}
+
+// ---- A dead device
+
+// Two bits of device 0 are turned behind a write, and one of the spare.
+const TURNED_TWICE: &str =
+    "C 32 0000 0000\nC 35 002d 0c00\nB P\nF 0 0 0\nF 0 0 1\nF 0 4 5\nC 51 003d 0400\nC 54 000b\nE 55\n";
+
+// A dead device, and what a read finds there without it. Two turned bits are too many for a codeword, so the data of the write
+// come of it only where device 0 is the dead one. Else its part is wrong, and where one is made of the others, that one too.
+const DEAD_ROWS: [(&str, &str); 5] = [
+    (
+        "0",
+        "11000000000000000000000000000000000000000000000000000000000000000000000000000000000000000000000000000000000000000000000000000000",
+    ),
+    (
+        "1",
+        "10000000000000000000000000000000010000000000000000000000000000000000000000000000000000000000000000000000000000000000000000000000",
+    ),
+    (
+        "2",
+        "10000000000000000000000000000000000000000000000000000000000000000100000000000000000000000000000000000000000000000000000000000000",
+    ),
+    (
+        "3",
+        "10000000000000000000000000000000000000000000000000000000000000000000000000000000000000000000000001000000000000000000000000000000",
+    ),
+    (
+        "4",
+        "10000000000000000000000000000000000000000000000000000000000000000000000000000000000000000000000000000000000000000000000000000000",
+    ),
+];
+
+#[test]
+fn a_dead_device_is_not_read(rt: HostRuntime) -> Result<(), Fail> {
+    let alloc = rt.alloc();
+    for (dead, found) in DEAD_ROWS {
+        let (status, made) = run_with(alloc, &["spare", dead], &opened(alloc, TURNED_TWICE)?)?;
+        let wanted = format!(in alloc;
+            "{OPENING}{REGISTERS}C 32 0000 0000\nC 35 002d 0c00\nF 35 0 0 0\nF 35 0 0 1\nF 35 0 4 5\nC 51 003d 0400\nD 15 0 {found} fixed\nC 54 000b\nE 55\n"
+        )?;
+        assert_eq!(rt; status, Status::Ok);
+        assert_eq!(rt; made.bytes(), wanted.as_bytes());
+    }
+    Ok(())
+}
+
+// A dead device, lines behind the register writes, what is written of them, and the status.
+const SPARE_ROWS: [(&str, &str, &str, Status); 6] = [
+    // There are no counts.
+    ("4", "E 29\n", "E 29\n", Status::Ok),
+    // The spare is device 4, and there is no device 5.
+    ("3", "F 0 4 135\nE 29\n", "F 28 0 4 135\nE 29\n", Status::Ok),
+    ("3", "F 0 5 0\nE 29\n", "X 9 5\n", Status::Refused),
+    // The read comes one clock too soon.
+    (
+        "2",
+        "C 32 0000 0000\nC 35 002d 0c00\nB P\nF 0 4 0\nC 50 003d 0400\nC 54 000b\nE 55\n",
+        "C 32 0000 0000\nC 35 002d 0c00\nF 35 0 4 0\nA broken 13 2\n",
+        Status::Broken,
+    ),
+    // The data of the write is missing.
+    (
+        "1",
+        "C 32 0000 0000\nC 35 002d 0c00\nF 0 0 0\n",
+        "C 32 0000 0000\nC 35 002d 0c00\nX 11 18\n",
+        Status::Refused,
+    ),
+    // There is no end.
+    ("0", "C 32 000b\n", "C 32 000b\nX 10 19\n", Status::Refused),
+];
+
+#[test]
+fn scripts_are_run_with_a_dead_device(rt: HostRuntime) -> Result<(), Fail> {
+    let alloc = rt.alloc();
+    for (dead, lines, written, answer) in SPARE_ROWS {
+        let (status, made) = run_with(alloc, &["spare", dead], &opened(alloc, lines)?)?;
+        assert_eq!(rt; status, answer);
+        assert_eq!(rt; made.bytes(), opened(alloc, written)?.as_bytes());
+    }
+    Ok(())
+}
+
+#[test]
+fn a_refused_opening_of_a_script_is_told_with_a_dead_device(rt: HostRuntime) -> Result<(), Fail> {
+    let (status, made) = run_with(rt.alloc(), &["spare", "0"], "format = 1\n")?;
     assert_eq!(rt; status, Status::Refused);
     assert_eq!(rt; made.bytes(), b"X 0 16\n".as_slice());
     Ok(())
@@ -207,10 +299,10 @@ fn a_replayed_log_is_a_script(rt: HostRuntime) -> Result<(), Fail> {
         (SCRUBBED, "S worst 1\nE 2543\n"),
         (ALERTED, "S worst 0\nE 181\n"),
     ] {
-        let (status, report) = run_with(alloc, "replay", &with_data(alloc, job)?)?;
+        let (status, report) = run_with(alloc, &["replay"], &with_data(alloc, job)?)?;
         assert_eq!(rt; status, Status::Ok);
         let script = script_of(alloc, str::from_utf8(report.bytes()).unwrap_or(""))?;
-        let (status, made) = run_with(alloc, "exec", &script)?;
+        let (status, made) = run_with(alloc, &["exec"], &script)?;
         assert_eq!(rt; status, Status::Ok);
         let wanted = all_told(alloc, report.bytes())?;
         assert_eq!(rt; all_told(alloc, made.bytes())?, wanted);

@@ -210,7 +210,8 @@ fn each_read_of_four_ports_fails(rt: HostRuntime) -> Result<(), Fail> {
 #[test]
 fn each_read_of_a_script_fails(rt: HostRuntime) -> Result<(), Fail> {
     let script = small_script(rt.alloc())?;
-    fails_at_each_read(&rt, rt.alloc(), &["exec"], script.as_bytes())
+    fails_at_each_read(&rt, rt.alloc(), &["exec"], script.as_bytes())?;
+    fails_at_each_read(&rt, rt.alloc(), &["spare", "1"], script.as_bytes())
 }
 
 // ---- Writes
@@ -275,5 +276,6 @@ fn each_write_of_four_ports_fails(rt: HostRuntime) -> Result<(), Fail> {
 #[test]
 fn each_write_of_a_script_fails(rt: HostRuntime) -> Result<(), Fail> {
     let script = small_script(rt.alloc())?;
-    fails_at_each_write(&rt, rt.alloc(), &["exec"], script.as_bytes())
+    fails_at_each_write(&rt, rt.alloc(), &["exec"], script.as_bytes())?;
+    fails_at_each_write(&rt, rt.alloc(), &["spare", "1"], script.as_bytes())
 }

@@ -2,7 +2,7 @@
 ghost use Rattle.std.specs.Prelude.{ℕ, ◌≡◌, ◌≤◌, ◌∷◌, [], List, Some, None, Ok, IfSome, length, true, false, map, string_bytes, drop};
 ghost use Rattle.ddr_text.specs.Grammar.{number_of};
 ghost use Rattle.ddr_cli.specs.declared.form.Form.{Form as AnyForm};
-ghost use Rattle.ddr_cli.specs.Words.{AskForPorts, HasCap, IsFoundIn, IsOfForm, Makes, cap_in, cap_of};
+ghost use Rattle.ddr_cli.specs.Words.{AskForPorts, HasCap, HasNumber, IsFoundIn, IsOfForm, IsSpare, Makes, number_in, only_number};
 
 use ddr_text::number_of;
 use made_jobs::read_words;
@@ -28,6 +28,8 @@ pub enum Form {
     Merge(u32),
     /// `exec`.
     Exec,
+    /// `spare` with the number of the dead device.
+    Spare(u8),
 }
 
 /// The form of the words. `None` exactly where they are of none.
@@ -54,10 +56,14 @@ fn longer_form(words: &[String]) -> Option<Form>
     ensures found { (it : AnyForm) → result ≡ Some it → IsOfForm words.now it }
     ensures none_made { result ≡ None → ¬ (Makes words.now) }
     ensures none_ported { result ≡ None → ¬ (AskForPorts words.now) }
+    ensures none_spared { result ≡ None → (dead : ℕ) → ¬ (IsSpare words.now dead) }
 {
     match made_form(words) {
         Some(form) => Some(form),
-        None => ports_form(words),
+        None => match ports_form(words) {
+            Some(form) => Some(form),
+            None => spare_form(words),
+        },
     }
 }
 
@@ -80,39 +86,61 @@ fn cap_behind(words: &[String], word: &str) -> Option<u32>
     ensures found { IfSome result (HasCap word.now words.now) }
     ensures none { result ≡ None → (cap : ℕ) → ¬ (HasCap word.now words.now cap) }
 {
+    match number_behind(words, word, 1, 32) {
+        Some(cap) => Some(u32::from(cap)),
+        None => None,
+    }
+}
+
+// The form of words that name a dead device.
+fn spare_form(words: &[String]) -> Option<Form>
+    ensures found { (it : AnyForm) → result ≡ Some it → IsOfForm words.now it }
+    ensures none { result ≡ None → (dead : ℕ) → ¬ (IsSpare words.now dead) }
+{
+    match number_behind(words, "spare", 0, 4) {
+        Some(dead) => Some(Form::Spare(dead)),
+        None => None,
+    }
+}
+
+// The number that the one word behind this word spells, where it is in this range.
+fn number_behind(words: &[String], word: &str, least: u8, most: u8) -> Option<u8>
+    ensures found { IfSome result (HasNumber least most word.now words.now) }
+    ensures none { result ≡ None → (number : ℕ) → ¬ (HasNumber least most word.now words.now number) }
+{
     if !begins_with(words, word) {
         return None;
     }
-    cap_of(behind_first(words))
+    only_number(behind_first(words), least, most)
 }
 
-// The cap that the one word spells.
-#[tactic(auto, unfolding(crate::specs::Words::cap_of))]
-fn cap_of(words: &[String]) -> Option<u32>
-    ensures { result ≡ cap_of (map string_bytes words.now) }
+// The number that the one word spells, where it is in this range.
+#[tactic(auto, unfolding(crate::specs::Words::only_number))]
+fn only_number(words: &[String], least: u8, most: u8) -> Option<u8>
+    ensures { result ≡ only_number least most (map string_bytes words.now) }
 {
     match words {
-        [word] => cap_spelled(word.as_str()),
+        [word] => spelled_number(word.as_str(), least, most),
         _ => None,
     }
 }
 
-// The cap that a word spells.
-fn cap_spelled(word: &str) -> Option<u32>
-    ensures { result ≡ cap_in (number_of word.now) }
+// The number that a word spells, where it is in this range.
+fn spelled_number(word: &str, least: u8, most: u8) -> Option<u8>
+    ensures { result ≡ number_in least most (number_of word.now) }
 {
     match number_of(word.as_bytes()) {
-        Ok(number) => cap_in(number),
+        Ok(number) => number_in(number, least, most),
         Err(_) => None,
     }
 }
 
-// The number, where it is a cap.
-fn cap_in(number: u64) -> Option<u32>
-    ensures { result ≡ cap_in (Ok number) }
+// The number, where it is in this range.
+fn number_in(number: u64, least: u8, most: u8) -> Option<u8>
+    ensures { result ≡ number_in least most (Ok number) }
 {
-    if 1 <= number && number <= 32 {
-        Some(number as u32)
+    if u64::from(least) <= number && number <= u64::from(most) {
+        Some(number as u8)
     } else {
         None
     }

@@ -11,15 +11,17 @@ ghost use Rattle.made_jobs.specs.Writing.{Writes};
 ghost use Rattle.ddr_cli.specs.Made.{MadeAnswers};
 ghost use Rattle.ddr_cli.specs.Shown.{ShowAnswers};
 ghost use Rattle.ddr_cli.specs.Upgraded.{UpgradeAnswers};
-ghost use Rattle.ddr_cli.specs.Words.{AskForPorts, AskForRules, IsAudit, IsExec, IsGen, IsGenRun, IsListed, IsMerge, IsPorts, IsReplay, IsShow, IsUpgrade, Makes};
+ghost use Rattle.ddr_cli.specs.Words.{AskForPorts, AskForRules, IsAudit, IsExec, IsGen, IsGenRun, IsListed, IsMerge, IsPorts, IsReplay, IsShow, IsSpare, IsUpgrade, Makes};
 ghost use Rattle.ddr_text.specs.Opening.{Accepts, opening_of};
 ghost use Rattle.ddr_text.specs.Outcome.{AnswersAs};
-ghost use Rattle.device_exec.specs.Executed.{IsExecuted};
+ghost use Rattle.device_exec.specs.Executed.{IsExecuted, four_devices};
 ghost use Rattle.device_exec.specs.Promises.{IsFlawless, IsUnblamed, IsWithinBound, JudgesInOrder, ReadsWell};
 ghost use Rattle.fair_queue.specs.Answering.{MergeAnswers};
 ghost use Rattle.fair_queue.specs.Arrivals.{input_of};
 ghost use Rattle.fair_queue.specs.Serving.{PortsAnswers};
 ghost use Rattle.fair_queue.specs.Turns.{IsFair};
+ghost use Rattle.spare_device.specs.Promises.{ReadsWell as ReadsWellWithout};
+ghost use Rattle.spare_device.specs.Spared.{IsSpared, five_devices};
 
 use crate::made_run::run_made;
 use crate::showing::show;
@@ -30,6 +32,7 @@ use device_exec::exec;
 use fair_queue::{merge, ports};
 use log_auditor::audit;
 use made_jobs::write_job;
+use spare_device::spare;
 use std::alloc::Global;
 use trace_replay::replay;
 
@@ -86,7 +89,7 @@ pub fn run<S: Source, K: Sink>(
     // Whoever made the script: its lines are judged in their order by the rules alone, its reads are those of plain memory where
     // few bits were turned, and no row has more activations than the bound.
     ensures exec_judged { (bytes rest text : List ℕ) (h : Header) → IsExec words.now → S.left source.old ≡ Some bytes → opening_of bytes ≡ Accepts h text rest
-        → JudgesInOrder h rest }
+        → JudgesInOrder four_devices h rest }
     ensures exec_reads { (bytes rest text : List ℕ) (h : Header) → IsExec words.now → S.left source.old ≡ Some bytes → opening_of bytes ≡ Accepts h text rest
         → ReadsWell h rest }
     ensures exec_bounded { (bytes rest text : List ℕ) (h : Header) → IsExec words.now → S.left source.old ≡ Some bytes → opening_of bytes ≡ Accepts h text rest
@@ -94,7 +97,21 @@ pub fn run<S: Source, K: Sink>(
 
     // A script with nothing to refuse and no broken rule is neither refused nor broken.
     ensures exec_complete { (bytes rest text : List ℕ) (h : Header) (clock : ℕ) → IsExec words.now → S.left source.old ≡ Some bytes
-        → opening_of bytes ≡ Accepts h text rest → IsFlawless h rest clock → IsUnblamed result }
+        → opening_of bytes ≡ Accepts h text rest → IsFlawless four_devices h rest clock → IsUnblamed result }
+
+    // With the word `spare` and a dead device: what five devices make of the script, of which that one is not read.
+    ensures spared { (dead : ℕ) → IsSpare words.now dead → AnswersAs (IsSpared dead (S.left source.old)) result (S.left source.old) (S.left source.new) (K.written sink.old) (K.written sink.new) }
+
+    // Whoever made the script: its lines are judged in their order by the rules alone, and its reads are those of plain memory
+    // where few bits were turned in the live devices, whatever was turned in the dead one.
+    ensures spare_judged { (dead : ℕ) (bytes rest text : List ℕ) (h : Header) → IsSpare words.now dead → S.left source.old ≡ Some bytes → opening_of bytes ≡ Accepts h text rest
+        → JudgesInOrder (five_devices dead) h rest }
+    ensures spare_reads { (dead : ℕ) (bytes rest text : List ℕ) (h : Header) → IsSpare words.now dead → S.left source.old ≡ Some bytes → opening_of bytes ≡ Accepts h text rest
+        → ReadsWellWithout dead h rest }
+
+    // A script with nothing to refuse and no broken rule is neither refused nor broken.
+    ensures spare_complete { (dead : ℕ) (bytes rest text : List ℕ) (h : Header) (clock : ℕ) → IsSpare words.now dead → S.left source.old ≡ Some bytes
+        → opening_of bytes ≡ Accepts h text rest → IsFlawless (five_devices dead) h rest clock → IsUnblamed result }
 
     // A fault is told where it was counted.
     ensures read { result ≡ Status.ReadFault → Rose (S.faults source.old) (S.faults source.new) }
@@ -115,6 +132,7 @@ pub fn run<S: Source, K: Sink>(
         Some(Form::Ports(cap)) => ports(alloc, cap, source, sink),
         Some(Form::Merge(cap)) => merge(alloc, cap, source, sink),
         Some(Form::Exec) => exec(alloc, source, sink),
+        Some(Form::Spare(dead)) => spare(alloc, dead, source, sink),
         None => Status::Usage,
     }
 }

@@ -161,7 +161,7 @@ fn headers_are_refused(rt: HostRuntime) -> Result<(), Fail> {
 #[test]
 fn other_words(rt: HostRuntime) -> Result<(), Fail> {
     let alloc = rt.alloc();
-    let rows: [&[&str]; 30] = [
+    let rows: [&[&str]; 38] = [
         &[],
         &["replay", "now"],
         &["Replay"],
@@ -192,6 +192,14 @@ fn other_words(rt: HostRuntime) -> Result<(), Fail> {
         &["exec", "2"],
         &["Exec"],
         &["exec", "exec"],
+        &["spare"],
+        &["spare", "5"],
+        &["spare", "01"],
+        &["spare", "+1"],
+        &["spare", "1", "1"],
+        &["spare", "256"],
+        &["1", "spare"],
+        &["Spare", "1"],
     ];
     for row in rows {
         let words = words_of(alloc, row)?;
@@ -211,7 +219,7 @@ fn faults_are_told(rt: HostRuntime) -> Result<(), Fail> {
     let rows = [
         (
             Status::Usage,
-            "usage: ddr replay | audit | show | gen [run] SEED REQUESTS | upgrade | ports CAP | merge CAP | exec",
+            "usage: ddr replay | audit | show | gen [run] SEED REQUESTS | upgrade | ports CAP | merge CAP | exec | spare DEVICE",
         ),
         (Status::ReadFault, "read fault"),
         (Status::WriteFault, "write fault"),

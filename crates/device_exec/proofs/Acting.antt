@@ -23,7 +23,7 @@ use Rattle.device_exec.specs.Executed.{four_devices}
 use Rattle.device_exec.specs.Reading.{stage_after}
 use Rattle.device_exec.specs.Running.{Acts, IsAt, MayAct, data_lines, gone_on}
 use Rattle.device_exec.specs.ScriptGrammar.{IsScriptLine}
-use Rattle.device_exec.specs.Scripts.{Answered, Effect, Moves, Breaks, Phase, Ready, Waits, Ended, Script, acted, answer_lines, given, last_clock, next, placed, reads_of, stage_of, unless_broken, written}
+use Rattle.device_exec.specs.Scripts.{Answered, Devices, Effect, Moves, Breaks, Phase, Ready, Waits, Ended, Script, acted, answer_lines, given, last_clock, next, placed, reads_of, stage_of, unless_broken, written}
 use Rattle.device_exec.specs.Standing.{Commands, Ends, StandsFor, answered, geometry_of}
 use Rattle.device_exec.specs.declared.checked_device.Answer.{Answer}
 use Rattle.device_exec.specs.declared.checked_device.Checked.TheVariants as checked
@@ -177,26 +177,26 @@ end_leads : (script : Script) (clock : ℕ) (more : List ReportLine) (got : List
 end_leads script clock more got later after (Some rule) at e = absurd cc
 end_leads script clock more got later after None at e = leads_to script (next script script.steps (Ended clock)) later after (same_script _ _ _ _ _ _ e) (sym at) refl
 
-pub leads_on : (h : Header) (script : Script) (line : ScriptLine) (more : List ReportLine) (got : List Answered) (later : Script) (after : Stage) → stage_after (stage_of script.phase) line ≡ Some after → acted four_devices h script line ≡ Moves more got later → LeadsOn script later after
-leads_on h script (Issued clock command) more got later after stands e = go script.phase refl stands
+pub leads_on : (d : Devices) (h : Header) (script : Script) (line : ScriptLine) (more : List ReportLine) (got : List Answered) (later : Script) (after : Stage) → stage_after (stage_of script.phase) line ≡ Some after → acted d h script line ≡ Moves more got later → LeadsOn script later after
+leads_on d h script (Issued clock command) more got later after stands e = go script.phase refl stands
   where
     go : (p : Phase) → script.phase ≡ p → stage_after (stage_of p) (Issued clock command) ≡ Some after → LeadsOn script later after
     go Ready is k = command_leads script (placed clock command) _ _ more _ _ got later after (broken h clock command (log_of script.steps)) (is_wr command) (some_stage _ _ k) e
     go (Waits place) is k = absurd cc
     go (Ended at) is k = absurd cc
-leads_on h script (Bytes bytes) more got later after stands e = go script.phase refl stands
+leads_on d h script (Bytes bytes) more got later after stands e = go script.phase refl stands
   where
     go : (p : Phase) → script.phase ≡ p → stage_after (stage_of p) (Bytes bytes) ≡ Some after → LeadsOn script later after
     go Ready is k = absurd cc
     go (Waits place) is k = leads_to script (next script (written script.phase bytes script.steps) Ready) later after (same_script _ _ _ _ _ _ e) (sym (some_stage _ _ k)) refl
     go (Ended at) is k = absurd cc
-leads_on h script (Flip line device bit) more got later after stands e = go script.phase refl stands
+leads_on d h script (Flip line device bit) more got later after stands e = go script.phase refl stands
   where
     go : (p : Phase) → script.phase ≡ p → stage_after (stage_of p) (Flip line device bit) ≡ Some after → LeadsOn script later after
     go Ready is k = leads_to script (next script (Flips (place_of line (shape_of h)) device bit ∷ script.steps) Ready) later after (same_script _ _ _ _ _ _ e) (sym (some_stage _ _ k)) refl
     go (Waits place) is k = absurd cc
     go (Ended at) is k = absurd cc
-leads_on h script (End clock) more got later after stands e = go script.phase refl stands
+leads_on d h script (End clock) more got later after stands e = go script.phase refl stands
   where
     go : (p : Phase) → script.phase ≡ p → stage_after (stage_of p) (End clock) ≡ Some after → LeadsOn script later after
     go Ready is k = end_leads script clock more got later after (broken_at_end h clock (log_of script.steps)) (some_stage _ _ k) e

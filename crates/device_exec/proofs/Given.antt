@@ -22,7 +22,7 @@ use Rattle.speed_bin.specs.Log.{Log}
 use Rattle.speed_bin.specs.Rules.{broken, broken_at_end}
 use Rattle.speed_bin.specs.declared.header.Header.{Header}
 use Rattle.device_exec.specs.Executed.{execution, four_devices, script_lines}
-use Rattle.device_exec.specs.Promises.{AreRight, IsRight, ReadsWell, data_in}
+use Rattle.device_exec.specs.Promises.{AreAnswered, AreRight, CountNoReads, IsRight, ReadsWell, ShowsReads, data_in}
 use Rattle.device_exec.specs.Reading.{Placed, behind_line, judged_line, lines_in, stage_behind}
 use Rattle.device_exec.specs.ScriptGrammar.{IsScriptLine, ScriptLines}
 use Rattle.device_exec.specs.Scripts.{Answered, Devices, Effect, Execution, Moves, Phase, Ready, Waits, Ended, Script, acted, answer_line, answer_lines, begun, behind, followed, given, next, placed, reads_of, run_from, unless_broken, written}
@@ -51,7 +51,7 @@ all_inside law g devices stage number (text ∷ more ∷ parts) = go (judged_lin
 
 -- ---- Bytes and bits
 
-none_given : (h : Header) (command : Command) (log : Log) (changes : List Change) → AreGiven changes → AreGiven (also (change_of h command None log) changes)
+pub none_given : (h : Header) (command : Command) (log : Log) (changes : List Change) → AreGiven changes → AreGiven (also (change_of h command None log) changes)
 none_given h (Act bank row) log changes a = a
 none_given h (Rd bank column) log changes a = a
 none_given h (Wr bank column) log changes a = a
@@ -81,17 +81,12 @@ some_given h (Mrw write) bytes log changes i a = a
 some_given h Ecs bytes log changes i a = a
 some_given h Nop bytes log changes i a = a
 
-written_given : (h : Header) (phase : Phase) (bytes : List ℕ) (steps : List Step) → IsBytes 64 bytes → AreGiven (changes_of h steps) → AreGiven (changes_of h (written phase bytes steps))
+pub written_given : (h : Header) (phase : Phase) (bytes : List ℕ) (steps : List Step) → IsBytes 64 bytes → AreGiven (changes_of h steps) → AreGiven (changes_of h (written phase bytes steps))
 written_given h Ready bytes steps i a = a
 written_given h (Waits place) bytes steps i a = some_given h place.command bytes (log_of steps) (changes_of h steps) i a
 written_given h (Ended clock) bytes steps i a = a
 
 -- ---- Reads
-
--- before each of these reads the devices were given bytes of its own for each WR, and bits of codewords
-abbrev pub AreAnswered : Header → List Answered → Type 0
-AreAnswered h [] = Unit {0}
-AreAnswered h (read ∷ reads) = AreGiven (changes_of h read.steps) × AreAnswered h reads
 
 answered_append : (h : Header) (a b : List Answered) → AreAnswered h a → AreAnswered h b → AreAnswered h (a ++ b)
 answered_append h [] b r s = s
@@ -158,53 +153,57 @@ data_append (Stat name number ∷ a) b = data_append a b
 data_append (EndLine clock ∷ a) b = data_append a b
 data_append (Refused line reason ∷ a) b = data_append a b
 
-answers_append : (h : Header) (a b : List Answered) → answer_lines four_devices h (a ++ b) ≡ answer_lines four_devices h a ++ answer_lines four_devices h b
-answers_append h [] b = refl
-answers_append h (read ∷ a) b = ap (λ l. answer_line four_devices h read ∷ l) (answers_append h a b)
+answers_append : (d : Devices) (h : Header) (a b : List Answered) → answer_lines d h (a ++ b) ≡ answer_lines d h a ++ answer_lines d h b
+answers_append d h [] b = refl
+answers_append d h (read ∷ a) b = ap (λ l. answer_line d h read ∷ l) (answers_append d h a b)
 
-data_answers : (h : Header) (reads : List Answered) → data_in (answer_lines four_devices h reads) ≡ answer_lines four_devices h reads
-data_answers h [] = refl
-data_answers h (read ∷ reads) = ap (λ l. answer_line four_devices h read ∷ l) (data_answers h reads)
+data_answers : (d : Devices) (h : Header) (reads : List Answered) → data_in (answer_lines d h reads) ≡ answer_lines d h reads
+data_answers d h [] = refl
+data_answers d h (read ∷ reads) = ap (λ l. answer_line d h read ∷ l) (data_answers d h reads)
 
 -- the D lines of an execution are those of its reads
-abbrev Shows : Header → Execution → Type 0
-Shows h e = data_in e.lines ≡ answer_lines four_devices h e.reads
+abbrev Shows : (d : Devices) → Header → Execution → Type 0
+Shows d h e = data_in e.lines ≡ answer_lines d h e.reads
 
-shows_behind : (h : Header) (lines : List ReportLine) (reads : List Answered) (e : Execution) → data_in lines ≡ answer_lines four_devices h reads → Shows h e → Shows h (behind lines reads e)
-shows_behind h lines reads e same shows =
-    data_append lines e.lines ∙ ap (λ l. l ++ data_in e.lines) same ∙ ap (λ l. answer_lines four_devices h reads ++ l) shows ∙ sym (answers_append h reads e.reads)
+shows_behind : (d : Devices) (h : Header) (lines : List ReportLine) (reads : List Answered) (e : Execution) → data_in lines ≡ answer_lines d h reads → Shows d h e → Shows d h (behind lines reads e)
+shows_behind d h lines reads e same shows =
+    data_append lines e.lines ∙ ap (λ l. l ++ data_in e.lines) same ∙ ap (λ l. answer_lines d h reads ++ l) shows ∙ sym (answers_append d h reads e.reads)
 
-command_shows : (h : Header) (script : Script) (clock : ℕ) (command : Command) (o : Option ℕ) (b : Bool) (go_on : Script → Execution) → ((later : Script) → Shows h (go_on later))
-    → Shows h (followed script (unless_broken o (if b then Moves (IssuedLine clock command ∷ []) [] (next script script.steps (Waits (placed clock command)))
-    else Moves (IssuedLine clock command ∷ answer_lines four_devices h (reads_of h script command)) (reads_of h script command) (next script (with_command clock command None script.steps) Ready))) go_on)
-command_shows h script clock command (Some rule) b go_on rest = refl
-command_shows h script clock command None true go_on rest = rest (next script script.steps (Waits (placed clock command)))
-command_shows h script clock command None false go_on rest =
+command_shows : (d : Devices) (h : Header) (script : Script) (clock : ℕ) (command : Command) (o : Option ℕ) (b : Bool) (go_on : Script → Execution) → ((later : Script) → Shows d h (go_on later))
+    → Shows d h (followed script (unless_broken o (if b then Moves (IssuedLine clock command ∷ []) [] (next script script.steps (Waits (placed clock command)))
+    else Moves (IssuedLine clock command ∷ answer_lines d h (reads_of h script command)) (reads_of h script command) (next script (with_command clock command None script.steps) Ready))) go_on)
+command_shows d h script clock command (Some rule) b go_on rest = refl
+command_shows d h script clock command None true go_on rest = rest (next script script.steps (Waits (placed clock command)))
+command_shows d h script clock command None false go_on rest =
     let later = next script (with_command clock command None script.steps) Ready in
-    shows_behind h (IssuedLine clock command ∷ answer_lines four_devices h (reads_of h script command)) (reads_of h script command) (go_on later) (data_answers h (reads_of h script command)) (rest later)
+    shows_behind d h (IssuedLine clock command ∷ answer_lines d h (reads_of h script command)) (reads_of h script command) (go_on later) (data_answers d h (reads_of h script command)) (rest later)
 
-end_shows : (h : Header) (script : Script) (clock : ℕ) (o : Option ℕ) (go_on : Script → Execution) → ((later : Script) → Shows h (go_on later)) → Shows h (followed script (unless_broken o (Moves [] [] (next script script.steps (Ended clock)))) go_on)
-end_shows h script clock (Some rule) go_on rest = refl
-end_shows h script clock None go_on rest = rest (next script script.steps (Ended clock))
+end_shows : (d : Devices) (h : Header) (script : Script) (clock : ℕ) (o : Option ℕ) (go_on : Script → Execution) → ((later : Script) → Shows d h (go_on later)) → Shows d h (followed script (unless_broken o (Moves [] [] (next script script.steps (Ended clock)))) go_on)
+end_shows d h script clock (Some rule) go_on rest = refl
+end_shows d h script clock None go_on rest = rest (next script script.steps (Ended clock))
 
-run_shows : (h : Header) (lines : List ScriptLine) (ending : Result ℕ Refusal) (script : Script) → Shows h (run_from four_devices h script lines ending)
-run_shows h [] (Ok clock) script = refl
-run_shows h [] (Err refusal) script = refl
-run_shows h (Issued clock command ∷ lines) ending script =
-    command_shows h script clock command (broken h clock command (log_of script.steps)) (is_wr command) (λ later. run_from four_devices h later lines ending) (λ later. run_shows h lines ending later)
-run_shows h (Bytes bytes ∷ lines) ending script = run_shows h lines ending (next script (written script.phase bytes script.steps) Ready)
-run_shows h (Flip line device bit ∷ lines) ending script = run_shows h lines ending (next script (Flips (place_of line (shape_of h)) device bit ∷ script.steps) Ready)
-run_shows h (End clock ∷ lines) ending script =
-    end_shows h script clock (broken_at_end h clock (log_of script.steps)) (λ later. run_from four_devices h later lines ending) (λ later. run_shows h lines ending later)
+run_shows : (d : Devices) (h : Header) → CountNoReads d → (lines : List ScriptLine) (ending : Result ℕ Refusal) (script : Script) → Shows d h (run_from d h script lines ending)
+run_shows d h none [] (Ok clock) script = data_append (d.counts h script.steps) (EndLine clock ∷ []) ∙ ap (λ l. l ++ []) (none h script.steps)
+run_shows d h none [] (Err refusal) script = refl
+run_shows d h none (Issued clock command ∷ lines) ending script =
+    command_shows d h script clock command (broken h clock command (log_of script.steps)) (is_wr command) (λ later. run_from d h later lines ending) (λ later. run_shows d h none lines ending later)
+run_shows d h none (Bytes bytes ∷ lines) ending script = run_shows d h none lines ending (next script (written script.phase bytes script.steps) Ready)
+run_shows d h none (Flip line device bit ∷ lines) ending script = run_shows d h none lines ending (next script (Flips (place_of line (shape_of h)) device bit ∷ script.steps) Ready)
+run_shows d h none (End clock ∷ lines) ending script =
+    end_shows d h script clock (broken_at_end h clock (log_of script.steps)) (λ later. run_from d h later lines ending) (λ later. run_shows d h none lines ending later)
+
+pub shows_reads : (d : Devices) (h : Header) (rest : List ℕ) → CountNoReads d → ShowsReads d h rest
+shows_reads d h rest none = let found = script_lines d.count h rest in run_shows d h none found.lines found.ending begun
+
+pub all_given : ScriptLines → (d : Devices) (h : Header) (rest : List ℕ) → AreAnswered h (execution d h rest).reads
+all_given law d h rest = let found = script_lines d.count h rest in run_reads d h found.lines found.ending begun (all_inside law (shape_of h) d.count Body 1 (parts_of rest)) tt
 
 pub reads_well : ScriptLines → ((changes : List Change) (line : ℕ) → AreGiven changes → IsTame changes line → (reading changes line).bytes ≡ last_written changes line)
     → ((changes : List Change) (line : ℕ) → AreGiven changes → IsTame changes line → IsGood (reading changes line).state) → (h : Header) (rest : List ℕ) → ReadsWell h rest
-reads_well law bytes state h rest =
-    let found = script_lines 4 h rest in
-    record {
-      shown = run_shows h found.lines found.ending begun;
-      right = all_right h (execution four_devices h rest).reads bytes state (run_reads four_devices h found.lines found.ending begun (all_inside law (shape_of h) 4 Body 1 (parts_of rest)) tt);
-    }
+reads_well law bytes state h rest = record {
+  shown = shows_reads four_devices h rest (λ k steps. refl);
+  right = all_right h (execution four_devices h rest).reads bytes state (all_given law four_devices h rest);
+}
 
 -- ---- Legal steps
 

@@ -43,7 +43,7 @@ pub text_behind : (lines : List ReportLine) (reads : List Answered) (e : Executi
 text_behind lines reads e =
     ap (λ (t : List ℕ). t ++ breach_text e.breach) (flat_map-append spelled lines e.lines) ∙ append_assoc (flat_map spelled lines) (flat_map spelled e.lines) (breach_text e.breach)
 
-behind_twice : (a c : List ReportLine) (b d : List Answered) (e : Execution) → behind a b (behind c d e) ≡ behind (a ++ c) (b ++ d) e
+pub behind_twice : (a c : List ReportLine) (b d : List Answered) (e : Execution) → behind a b (behind c d e) ≡ behind (a ++ c) (b ++ d) e
 behind_twice a c b d e =
     ap (λ (lines : List ReportLine). record { lines = lines; breach = e.breach; status = e.status; reads = b ++ (d ++ e.reads); steps = e.steps }) (sym (append_assoc a c e.lines))
     ∙ ap (λ (reads : List Answered). record { lines = (a ++ c) ++ e.lines; breach = e.breach; status = e.status; reads = reads; steps = e.steps }) (sym (append_assoc b d e.reads))
@@ -61,7 +61,7 @@ continues_line h (Some bytes) (Some left) after lines more reads got script late
     ∙ ap (λ (effect : Effect). behind lines reads (followed script effect (λ s. ran four_devices h s rest))) e
     ∙ behind_twice lines more reads got (ran four_devices h later rest))
 
-written_line : (before middle after : Option (List ℕ)) (lines more : List ReportLine) → Appends before middle (flat_map spelled lines) → Appends middle after (flat_map spelled more) → Appends before after (flat_map spelled (lines ++ more))
+pub written_line : (before middle after : Option (List ℕ)) (lines more : List ReportLine) → Appends before middle (flat_map spelled lines) → Appends middle after (flat_map spelled more) → Appends before after (flat_map spelled (lines ++ more))
 written_line before middle after lines more so_far next =
     subst (Appends before after) (sym (flat_map-append spelled lines more)) (Appends-trans before middle after (flat_map spelled lines) (flat_map spelled more) so_far next)
 
@@ -79,7 +79,7 @@ runs_on h start now after before middle end it new device changed line r steps s
   where
     go : (e : Effect) → acted four_devices h r.script line ≡ e → Acts (Ok None) e h changed middle end → RunsSoFar h start new after changed before end
     go (Moves more got later) is (stands, wrote) =
-        let leads = leads_on h r.script line more got later new.stage (ap (λ (s : Stage). stage_after s line) (sym r.stage) ∙ steps.stage) is in
+        let leads = leads_on four_devices h r.script line more got later new.stage (ap (λ (s : Stage). stage_after s line) (sym r.stage) ∙ steps.stage) is in
         record {
           script = later;
           lines = r.lines ++ more;
@@ -162,7 +162,7 @@ ends_with h (Some bytes) (Some left) lines reads script it text whole continued 
     ∙ ap (λ (t : List ℕ). record { text = t; status = rest.status }) (text_behind lines reads rest ∙ ap (λ (t : List ℕ). flat_map spelled lines ++ t) p.0)
     ∙ ap (λ (s : Status). record { text = flat_map spelled lines ++ text; status = s }) p.1
 
-closed : (Is : Outcome → Type 0) (whole answer : Status) (front text : List ℕ) (old new before middle after : Option (List ℕ)) → Is (record { text = front ++ text; status = whole }) → Appends before middle front → Closes whole answer text middle after → (whole ≡ status.Ok → ReadsAll old new) → AnswersAs Is answer old new before after
+pub closed : (Is : Outcome → Type 0) (whole answer : Status) (front text : List ℕ) (old new before middle after : Option (List ℕ)) → Is (record { text = front ++ text; status = whole }) → Appends before middle front → Closes whole answer text middle after → (whole ≡ status.Ok → ReadsAll old new) → AnswersAs Is answer old new before after
 closed Is whole status.Ok front text old new before middle after is wrote (same, more) all =
     ((record { text = front ++ text; status = whole }, is, sym same, Appends-trans before middle after front text wrote more), all same)
 closed Is whole status.Refused front text old new before middle after is wrote (same, more) all = (record { text = front ++ text; status = whole }, is, sym same, Appends-trans before middle after front text wrote more)
@@ -172,7 +172,7 @@ closed Is whole status.OutOfMemory front text old new before middle after is wro
 closed Is whole status.ReadFault front text old new before middle after is wrote closes all = absurd closes
 closed Is whole status.Usage front text old new before middle after is wrote closes all = absurd closes
 
-left_of : (it new : Place) (line : ScriptLine) (now after : Option (List ℕ)) (bytes : List ℕ) → IsStep it new now after (Line line) → now ≡ Some bytes → (rest : Lines) × (lines_left it bytes ≡ with_line line rest)
+pub left_of : (it new : Place) (line : ScriptLine) (now after : Option (List ℕ)) (bytes : List ℕ) → IsStep it new now after (Line line) → now ≡ Some bytes → (rest : Lines) × (lines_left it bytes ≡ with_line line rest)
 left_of it new line now after bytes step there = let s = subst (λ (o : Option (List ℕ)). IsStep it new o after (Line line)) there step in (lines_left new s.0, s.2)
 
 -- a rule is broken
@@ -193,7 +193,7 @@ runs_broken h start now after old end before middle later it new device changed 
         (ap text_of broke ∙ ap (λ (n : ℕ). broken_text n own) number_is ∙ ap (broken_text number) same, ap (λ (e : Execution). e.status) broke)))
         r.written (subst (λ (o : Option (List ℕ)). Closes status.Broken answer (broken_text number rule.0) o later) kept closes) (λ ok. absurd cc)
 
-refusal_closes : (s : Status) (n k : ℕ) (a b : Option (List ℕ)) → RefusesLine s n k a b → Closes status.Refused s (spelled (RefusedLine n k)) a b
+pub refusal_closes : (s : Status) (n k : ℕ) (a b : Option (List ℕ)) → RefusesLine s n k a b → Closes status.Refused s (spelled (RefusedLine n k)) a b
 refusal_closes status.Refused n k a b refuses = (refl, refuses)
 refusal_closes status.WriteFault n k a b refuses = refuses
 refusal_closes status.OutOfMemory n k a b refuses = refuses

@@ -16,10 +16,10 @@ use Rattle.speed_bin.specs.Header.{shape_of}
 use Rattle.speed_bin.specs.Log.{Issued as Place, Log}
 use Rattle.speed_bin.specs.Rules.{broken, broken_at_end, verdict, verdict_after, verdict_at_end}
 use Rattle.speed_bin.specs.declared.header.Header.{Header}
-use Rattle.device_exec.specs.Executed.{IsExecuted, executed, executed_in, execution, four_devices, script_lines}
+use Rattle.device_exec.specs.Executed.{IsExecuted, executed, executed_in, four_devices, script_lines}
 use Rattle.device_exec.specs.Promises.{IsFlawless, IsUnblamed, JudgesInOrder, breach_in, log_behind, or_later, status_by}
 use Rattle.device_exec.specs.Reading.{Placed, behind_line, end_at, ending_at, judged_line, judged_rest, lines_in, stage_after, stage_behind}
-use Rattle.device_exec.specs.Scripts.{Execution, Moves, Phase, Ready, Waits, Ended, Script, answer_lines, followed, next, placed, reads_of, run_from, stage_of, unless_broken}
+use Rattle.device_exec.specs.Scripts.{Devices, Execution, Moves, Phase, Ready, Waits, Ended, Script, answer_lines, followed, next, placed, reads_of, run_from, stage_of, unless_broken}
 use Rattle.device_exec.specs.declared.script_line.ScriptLine.{ScriptLine}
 use Rattle.device_exec.specs.declared.script_line.ScriptLine.TheVariants.{Issued, Bytes, Flip, End}
 use Rattle.device_exec.specs.declared.script_reader.Stage.{Stage}
@@ -83,9 +83,9 @@ abbrev script_at : List Step → Phase → ℕ → Script
 script_at steps phase number = record { steps = steps; phase = phase; number = number }
 
 -- the rest is ordered, wherever it begins
-abbrev Rest : Header → List ScriptLine → Result ℕ Refusal → Type 0
-Rest h lines ending = (steps : List Step) (phase : Phase) (number : ℕ) → AllStand (stage_of phase) lines ending → verdict h (so_far phase (log_of steps)) ≡ None → EndsFine h (log_of steps) phase
-    → Orders h (run_from four_devices h (script_at steps phase number) lines ending) (so_far phase (log_of steps)) number lines ending
+abbrev Rest : (d : Devices) → Header → List ScriptLine → Result ℕ Refusal → Type 0
+Rest d h lines ending = (steps : List Step) (phase : Phase) (number : ℕ) → AllStand (stage_of phase) lines ending → verdict h (so_far phase (log_of steps)) ≡ None → EndsFine h (log_of steps) phase
+    → Orders h (run_from d h (script_at steps phase number) lines ending) (so_far phase (log_of steps)) number lines ending
 
 still_fine : (h : Header) (place : Place) (log : Log) → verdict h log ≡ None → broken h place.clock place.command log ≡ None → verdict h (place ∷ log) ≡ None
 still_fine h place log e f = rw (e, f) refl
@@ -96,23 +96,23 @@ fine_at_end h clock log e f = rw (e, f) refl
 never_fine : (h : Header) (log : Log) (lines : List ScriptLine) (ending : Result ℕ Refusal) → (clock : ℕ) → status.Broken ≡ status.Ok → ending ≡ Ok clock → verdict_at_end h clock (log_behind log lines) ≡ None
 never_fine h log lines ending clock e f = absurd cc
 
-command_orders : (h : Header) (lines : List ScriptLine) (ending : Result ℕ Refusal) (steps : List Step) (number clock : ℕ) (command : Command) (o : Option ℕ) (b : Bool) → broken h clock command (log_of steps) ≡ o → verdict h (log_of steps) ≡ None → AllStand (if b then stage.Awaits else stage.Body) lines ending → Rest h lines ending
+command_orders : (d : Devices) (h : Header) (lines : List ScriptLine) (ending : Result ℕ Refusal) (steps : List Step) (number clock : ℕ) (command : Command) (o : Option ℕ) (b : Bool) → broken h clock command (log_of steps) ≡ o → verdict h (log_of steps) ≡ None → AllStand (if b then stage.Awaits else stage.Body) lines ending → Rest d h lines ending
     → Orders h (followed (script_at steps Ready number) (unless_broken o (if b then Moves (IssuedLine clock command ∷ []) [] (next (script_at steps Ready number) steps (Waits (placed clock command)))
-    else Moves (IssuedLine clock command ∷ answer_lines four_devices h (reads_of h (script_at steps Ready number) command)) (reads_of h (script_at steps Ready number) command) (next (script_at steps Ready number) (with_command clock command None steps) Ready)))
-    (λ later. run_from four_devices h later lines ending)) (log_of steps) number (Issued clock command ∷ lines) ending
-command_orders h lines ending steps number clock command (Some rule) b is fine stand rest = record {
+    else Moves (IssuedLine clock command ∷ answer_lines d h (reads_of h (script_at steps Ready number) command)) (reads_of h (script_at steps Ready number) command) (next (script_at steps Ready number) (with_command clock command None steps) Ready)))
+    (λ later. run_from d h later lines ending)) (log_of steps) number (Issued clock command ∷ lines) ending
+command_orders d h lines ending steps number clock command (Some rule) b is fine stand rest = record {
   breach_is = ap (λ (o : Option ℕ). or_later o number (breach_in h (placed clock command ∷ log_of steps) (number + 1) lines)) (sym is);
   status_is = refl;
   fine = λ at e f. never_fine h (log_of steps) (Issued clock command ∷ lines) ending at e f;
 }
-command_orders h lines ending steps number clock command None true is fine stand rest =
+command_orders d h lines ending steps number clock command None true is fine stand rest =
     let k = rest steps (Waits (placed clock command)) (number + 1) stand (still_fine h (placed clock command) (log_of steps) fine is) tt in
     record {
       breach_is = k.breach_is ∙ ap (λ (o : Option ℕ). or_later o number (breach_in h (placed clock command ∷ log_of steps) (number + 1) lines)) (sym is);
       status_is = k.status_is;
       fine = k.fine;
     }
-command_orders h lines ending steps number clock command None false is fine stand rest =
+command_orders d h lines ending steps number clock command None false is fine stand rest =
     let k = rest (with_command clock command None steps) Ready (number + 1) stand (still_fine h (placed clock command) (log_of steps) fine is) tt in
     record {
       breach_is = k.breach_is ∙ ap (λ (o : Option ℕ). or_later o number (breach_in h (placed clock command ∷ log_of steps) (number + 1) lines)) (sym is);
@@ -120,14 +120,14 @@ command_orders h lines ending steps number clock command None false is fine stan
       fine = k.fine;
     }
 
-end_orders : (h : Header) (lines : List ScriptLine) (ending : Result ℕ Refusal) (steps : List Step) (number clock : ℕ) (o : Option ℕ) → broken_at_end h clock (log_of steps) ≡ o → verdict h (log_of steps) ≡ None → AllStand (stage.Ended clock) lines ending → Rest h lines ending
-    → Orders h (followed (script_at steps Ready number) (unless_broken o (Moves [] [] (next (script_at steps Ready number) steps (Ended clock)))) (λ later. run_from four_devices h later lines ending)) (log_of steps) number (End clock ∷ lines) ending
-end_orders h lines ending steps number clock (Some rule) is fine stand rest = record {
+end_orders : (d : Devices) (h : Header) (lines : List ScriptLine) (ending : Result ℕ Refusal) (steps : List Step) (number clock : ℕ) (o : Option ℕ) → broken_at_end h clock (log_of steps) ≡ o → verdict h (log_of steps) ≡ None → AllStand (stage.Ended clock) lines ending → Rest d h lines ending
+    → Orders h (followed (script_at steps Ready number) (unless_broken o (Moves [] [] (next (script_at steps Ready number) steps (Ended clock)))) (λ later. run_from d h later lines ending)) (log_of steps) number (End clock ∷ lines) ending
+end_orders d h lines ending steps number clock (Some rule) is fine stand rest = record {
   breach_is = ap (λ (o : Option ℕ). or_later o number (breach_in h (log_of steps) (number + 1) lines)) (sym is);
   status_is = refl;
   fine = λ at e f. never_fine h (log_of steps) (End clock ∷ lines) ending at e f;
 }
-end_orders h lines ending steps number clock None is fine stand rest =
+end_orders d h lines ending steps number clock None is fine stand rest =
     let k = rest steps (Ended clock) (number + 1) stand fine is in
     record {
       breach_is = k.breach_is ∙ ap (λ (o : Option ℕ). or_later o number (breach_in h (log_of steps) (number + 1) lines)) (sym is);
@@ -139,38 +139,38 @@ some_is : (a b : Stage) → ◌≡◌ {A = Option Stage} (Some a) (Some b) → b
 some_is a b e = cc
 
 -- no line is left
-none_orders : (h : Header) (ending : Result ℕ Refusal) (steps : List Step) (phase : Phase) (number : ℕ) → AllStand (stage_of phase) [] ending → verdict h (so_far phase (log_of steps)) ≡ None → EndsFine h (log_of steps) phase
-    → Orders h (run_from four_devices h (script_at steps phase number) [] ending) (so_far phase (log_of steps)) number [] ending
-none_orders h (Err refusal) steps phase number stand fine ends = record { breach_is = refl; status_is = refl; fine = λ clock e f. absurd cc }
-none_orders h (Ok own) steps phase number stand fine ends = record { breach_is = refl; status_is = refl; fine = λ clock e f. go clock phase (stand clock f) fine ends }
+none_orders : (d : Devices) (h : Header) (ending : Result ℕ Refusal) (steps : List Step) (phase : Phase) (number : ℕ) → AllStand (stage_of phase) [] ending → verdict h (so_far phase (log_of steps)) ≡ None → EndsFine h (log_of steps) phase
+    → Orders h (run_from d h (script_at steps phase number) [] ending) (so_far phase (log_of steps)) number [] ending
+none_orders d h (Err refusal) steps phase number stand fine ends = record { breach_is = refl; status_is = refl; fine = λ clock e f. absurd cc }
+none_orders d h (Ok own) steps phase number stand fine ends = record { breach_is = refl; status_is = refl; fine = λ clock e f. go clock phase (stand clock f) fine ends }
   where
     go : (clock : ℕ) (p : Phase) → stage_of p ≡ stage.Ended clock → verdict h (so_far p (log_of steps)) ≡ None → EndsFine h (log_of steps) p → verdict_at_end h clock (so_far p (log_of steps)) ≡ None
     go clock Ready e f k = absurd cc
     go clock (Waits place) e f k = absurd cc
     go clock (Ended at) e f k = let same : at ≡ clock = cc in subst (λ (n : ℕ). verdict_at_end h n (log_of steps) ≡ None) same (fine_at_end h at (log_of steps) f k)
 
-in_order : (h : Header) (lines : List ScriptLine) (ending : Result ℕ Refusal) → Rest h lines ending
-in_order h [] ending steps phase number stand fine ends = none_orders h ending steps phase number stand fine ends
-in_order h (Issued clock command ∷ lines) ending steps Ready number stand fine ends =
-    command_orders h lines ending steps number clock command (broken h clock command (log_of steps)) (is_wr command) refl fine
-    (subst (λ (s : Stage). AllStand s lines ending) (some_is _ _ stand.1) stand.2) (λ later phase n a b c. in_order h lines ending later phase n a b c)
-in_order h (Issued clock command ∷ lines) ending steps (Waits place) number stand fine ends = let never = stand.1 in absurd cc
-in_order h (Issued clock command ∷ lines) ending steps (Ended at) number stand fine ends = let never = stand.1 in absurd cc
-in_order h (Bytes bytes ∷ lines) ending steps Ready number stand fine ends = let never = stand.1 in absurd cc
-in_order h (Bytes bytes ∷ lines) ending steps (Waits place) number stand fine ends =
-    let k = in_order h lines ending (with_command place.clock place.command (Some bytes) steps) Ready (number + 1) (subst (λ (s : Stage). AllStand s lines ending) (some_is _ _ stand.1) stand.2) fine tt in
+in_order : (d : Devices) (h : Header) (lines : List ScriptLine) (ending : Result ℕ Refusal) → Rest d h lines ending
+in_order d h [] ending steps phase number stand fine ends = none_orders d h ending steps phase number stand fine ends
+in_order d h (Issued clock command ∷ lines) ending steps Ready number stand fine ends =
+    command_orders d h lines ending steps number clock command (broken h clock command (log_of steps)) (is_wr command) refl fine
+    (subst (λ (s : Stage). AllStand s lines ending) (some_is _ _ stand.1) stand.2) (λ later phase n a b c. in_order d h lines ending later phase n a b c)
+in_order d h (Issued clock command ∷ lines) ending steps (Waits place) number stand fine ends = let never = stand.1 in absurd cc
+in_order d h (Issued clock command ∷ lines) ending steps (Ended at) number stand fine ends = let never = stand.1 in absurd cc
+in_order d h (Bytes bytes ∷ lines) ending steps Ready number stand fine ends = let never = stand.1 in absurd cc
+in_order d h (Bytes bytes ∷ lines) ending steps (Waits place) number stand fine ends =
+    let k = in_order d h lines ending (with_command place.clock place.command (Some bytes) steps) Ready (number + 1) (subst (λ (s : Stage). AllStand s lines ending) (some_is _ _ stand.1) stand.2) fine tt in
     record { breach_is = k.breach_is; status_is = k.status_is; fine = k.fine }
-in_order h (Bytes bytes ∷ lines) ending steps (Ended at) number stand fine ends = let never = stand.1 in absurd cc
-in_order h (Flip line device bit ∷ lines) ending steps Ready number stand fine ends =
-    let k = in_order h lines ending (Flips (place_of line (shape_of h)) device bit ∷ steps) Ready (number + 1) (subst (λ (s : Stage). AllStand s lines ending) (some_is _ _ stand.1) stand.2) fine tt in
+in_order d h (Bytes bytes ∷ lines) ending steps (Ended at) number stand fine ends = let never = stand.1 in absurd cc
+in_order d h (Flip line device bit ∷ lines) ending steps Ready number stand fine ends =
+    let k = in_order d h lines ending (Flips (place_of line (shape_of h)) device bit ∷ steps) Ready (number + 1) (subst (λ (s : Stage). AllStand s lines ending) (some_is _ _ stand.1) stand.2) fine tt in
     record { breach_is = k.breach_is; status_is = k.status_is; fine = k.fine }
-in_order h (Flip line device bit ∷ lines) ending steps (Waits place) number stand fine ends = let never = stand.1 in absurd cc
-in_order h (Flip line device bit ∷ lines) ending steps (Ended at) number stand fine ends = let never = stand.1 in absurd cc
-in_order h (End clock ∷ lines) ending steps Ready number stand fine ends =
-    end_orders h lines ending steps number clock (broken_at_end h clock (log_of steps)) refl fine
-    (subst (λ (s : Stage). AllStand s lines ending) (some_is _ _ stand.1) stand.2) (λ later phase n a b c. in_order h lines ending later phase n a b c)
-in_order h (End clock ∷ lines) ending steps (Waits place) number stand fine ends = let never = stand.1 in absurd cc
-in_order h (End clock ∷ lines) ending steps (Ended at) number stand fine ends = let never = stand.1 in absurd cc
+in_order d h (Flip line device bit ∷ lines) ending steps (Waits place) number stand fine ends = let never = stand.1 in absurd cc
+in_order d h (Flip line device bit ∷ lines) ending steps (Ended at) number stand fine ends = let never = stand.1 in absurd cc
+in_order d h (End clock ∷ lines) ending steps Ready number stand fine ends =
+    end_orders d h lines ending steps number clock (broken_at_end h clock (log_of steps)) refl fine
+    (subst (λ (s : Stage). AllStand s lines ending) (some_is _ _ stand.1) stand.2) (λ later phase n a b c. in_order d h lines ending later phase n a b c)
+in_order d h (End clock ∷ lines) ending steps (Waits place) number stand fine ends = let never = stand.1 in absurd cc
+in_order d h (End clock ∷ lines) ending steps (Ended at) number stand fine ends = let never = stand.1 in absurd cc
 
 -- ---- Where no rule is broken
 
@@ -210,11 +210,11 @@ no_breach h (End own ∷ lines) ending stage.Body log number clock stand e fine 
 no_breach h (End own ∷ lines) ending stage.Awaits log number clock stand e fine = let never = stand.1 in absurd cc
 no_breach h (End own ∷ lines) ending (stage.Ended at) log number clock stand e fine = let never = stand.1 in absurd cc
 
-pub judged_in_order : (h : Header) (rest : List ℕ) → JudgesInOrder h rest
-judged_in_order h rest =
-    let found = script_lines 4 h rest in
-    let stand = all_stand (shape_of h) 4 stage.Body 1 (parts_of rest) in
-    let k = in_order h found.lines found.ending [] Ready 1 stand refl tt in
+pub judged_in_order : (d : Devices) (h : Header) (rest : List ℕ) → JudgesInOrder d h rest
+judged_in_order d h rest =
+    let found = script_lines d.count h rest in
+    let stand = all_stand (shape_of h) d.count stage.Body 1 (parts_of rest) in
+    let k = in_order d h found.lines found.ending [] Ready 1 stand refl tt in
     record {
       breach = k.breach_is;
       status_is = k.status_is;
@@ -227,7 +227,7 @@ judged_in_order h rest =
 
 -- such a script is neither refused nor broken
 pub unblamed : (old new before after : Option (List ℕ)) (answer : Status) → AnswersAs (IsExecuted old) answer old new before after → (bytes rest text : List ℕ) (h : Header) (clock : ℕ) → old ≡ Some bytes → opening_of bytes ≡ Accepts h text rest
-    → IsFlawless h rest clock → IsUnblamed answer
+    → IsFlawless four_devices h rest clock → IsUnblamed answer
 unblamed old new before after answer answers bytes rest text h clock is opens fine = (
   λ (e : answer ≡ status.Refused). never status.Refused (subst (λ (s : Status). AnswersAs (IsExecuted old) s old new before after) e answers) (λ f. cc),
   λ (e : answer ≡ status.Broken). never status.Broken (subst (λ (s : Status). AnswersAs (IsExecuted old) s old new before after) e answers) (λ f. cc),
@@ -236,5 +236,5 @@ unblamed old new before after answer answers bytes rest text h clock is opens fi
     never : (s : Status) → EndsAs (IsExecuted old) s before after → (s ≡ status.Ok → ⊥) → ⊥
     never s (it, executes, same, wrote) other =
         let own : IsExecuted (Some bytes) it = subst (λ (o : Option (List ℕ)). IsExecuted o it) is executes in
-        let ok : (executed bytes).status ≡ status.Ok = ap (λ (o : Opens). (executed_in four_devices o).status) opens ∙ (judged_in_order h rest).ok clock fine in
+        let ok : (executed bytes).status ≡ status.Ok = ap (λ (o : Opens). (executed_in four_devices o).status) opens ∙ (judged_in_order four_devices h rest).ok clock fine in
         other (same ∙ ap (λ (o : Outcome). o.status) (sym own) ∙ ok)

@@ -5,17 +5,17 @@ use Rattle.ddr_io.specs.declared.status.Status.TheVariants as status
 use Rattle.ddr_text.specs.ReportParts.{Refusal}
 use Rattle.ddr_text.specs.declared.lines.ReportLine.{ReportLine}
 use Rattle.ddr_text.specs.declared.lines.ReportLine.TheVariants.{Issued as IssuedLine, Value, Flip as FlipLine, Stat, End as EndLine, Refused}
-use Rattle.device_core.specs.Steps.{log_of}
+use Rattle.device_core.specs.Steps.{Step, log_of}
 use Rattle.device_core.specs.Stored.{changes_of, reading}
 use Rattle.error_scrub.specs.Reading.{IsGood}
-use Rattle.error_scrub.specs.Tame.{IsTame, last_written}
+use Rattle.error_scrub.specs.Tame.{AreGiven, IsTame, last_written}
 use Rattle.speed_bin.specs.Counts.{peak}
 use Rattle.speed_bin.specs.Header.{bound}
 use Rattle.speed_bin.specs.Log.{Log}
 use Rattle.speed_bin.specs.Rules.{broken, broken_at_end, verdict_at_end}
 use Rattle.speed_bin.specs.declared.header.Header.{Header}
 use Rattle.device_exec.specs.Executed.{execution, four_devices, script_lines}
-use Rattle.device_exec.specs.Scripts.{Answered, answer_lines, placed}
+use Rattle.device_exec.specs.Scripts.{Answered, Devices, answer_lines, placed}
 use Rattle.device_exec.specs.declared.script_line.ScriptLine.{ScriptLine}
 use Rattle.device_exec.specs.declared.script_line.ScriptLine.TheVariants.{Issued, Bytes, Flip, End}
 
@@ -40,9 +40,22 @@ data_in (Stat name number ∷ lines) = data_in lines
 data_in (EndLine clock ∷ lines) = data_in lines
 data_in (Refused line reason ∷ lines) = data_in lines
 
+-- the counts of these devices have no D line among them
+abbrev pub CountNoReads : Devices → Type 0
+CountNoReads d = (h : Header) (steps : List Step) → data_in (d.counts h steps) ≡ []
+
+-- each RD has its D line, in their order
+abbrev pub ShowsReads : Devices → Header → List ℕ → Type 0
+ShowsReads d h rest = data_in (execution d h rest).lines ≡ answer_lines d h (execution d h rest).reads
+
+-- before each of these reads the devices were given 64 bytes with each WR, and bits of codewords were turned alone
+abbrev pub AreAnswered : Header → List Answered → Type 0
+AreAnswered h [] = ⊤
+AreAnswered h (read ∷ reads) = AreGiven (changes_of h read.steps) × AreAnswered h reads
+
 -- each RD has its D line, in their order, and each D line is right
 pub record ReadsWell (h : Header) (rest : List ℕ) : Type 0 where
-  pub shown : data_in (execution four_devices h rest).lines ≡ answer_lines four_devices h (execution four_devices h rest).reads
+  pub shown : ShowsReads four_devices h rest
   pub right : AreRight h (execution four_devices h rest).reads
 
 -- ---- The bound
@@ -81,8 +94,8 @@ status_by None (Err refusal) = status.Refused
 status_by None (Ok clock) = status.Ok
 
 -- every line is accepted, the last one is an E line with this clock, and the log of the C lines breaks no rule up to there
-abbrev pub IsFlawless : Header → List ℕ → ℕ → Type 0
-IsFlawless h rest clock = ((script_lines 4 h rest).ending ≡ Ok clock) × (verdict_at_end h clock (log_behind [] (script_lines 4 h rest).lines) ≡ None)
+abbrev pub IsFlawless : Devices → Header → List ℕ → ℕ → Type 0
+IsFlawless d h rest clock = ((script_lines d.count h rest).ending ≡ Ok clock) × (verdict_at_end h clock (log_behind [] (script_lines d.count h rest).lines) ≡ None)
 
 -- neither a line nor a rule is named
 abbrev pub IsUnblamed : Status → Type 0
@@ -90,8 +103,8 @@ IsUnblamed answer = (answer ≢ status.Refused) × (answer ≢ status.Broken)
 
 -- The lines are judged in their order, by the rules alone: the first one that is refused, or at which a rule fails, ends the
 -- script. Where there is none, the whole log breaks no rule, the end included; and only where that is so is the status Ok.
-pub record JudgesInOrder (h : Header) (rest : List ℕ) : Type 0 where
-  pub breach : (execution four_devices h rest).breach ≡ breach_in h [] 1 (script_lines 4 h rest).lines
-  pub status_is : (execution four_devices h rest).status ≡ status_by (execution four_devices h rest).breach (script_lines 4 h rest).ending
-  pub flawless : (clock : ℕ) → (execution four_devices h rest).status ≡ status.Ok → (script_lines 4 h rest).ending ≡ Ok clock → IsFlawless h rest clock
-  pub ok : (clock : ℕ) → IsFlawless h rest clock → (execution four_devices h rest).status ≡ status.Ok
+pub record JudgesInOrder (d : Devices) (h : Header) (rest : List ℕ) : Type 0 where
+  pub breach : (execution d h rest).breach ≡ breach_in h [] 1 (script_lines d.count h rest).lines
+  pub status_is : (execution d h rest).status ≡ status_by (execution d h rest).breach (script_lines d.count h rest).ending
+  pub flawless : (clock : ℕ) → (execution d h rest).status ≡ status.Ok → (script_lines d.count h rest).ending ≡ Ok clock → IsFlawless d h rest clock
+  pub ok : (clock : ℕ) → IsFlawless d h rest clock → (execution d h rest).status ≡ status.Ok

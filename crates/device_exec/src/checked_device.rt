@@ -25,11 +25,11 @@ use log_auditor::{Auditor, Rule};
 use speed_bin::Header;
 use std::alloc::Global;
 
-// A WR that was judged, and whose bytes come next.
+/// A WR that was judged, and whose bytes come next.
 #[derive(Clone, Copy, Debug, PartialEq, Eq)]
-pub(crate) struct Waiting {
-    pub(crate) clock: u64,
-    pub(crate) command: Command,
+pub struct Waiting {
+    pub clock: u64,
+    pub command: Command,
 }
 
 /// What an RD found: its line, and the reading of it.

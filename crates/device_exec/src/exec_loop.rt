@@ -41,13 +41,13 @@ pub fn exec<S: Source, K: Sink>(alloc: Global, source: &mut S, sink: &mut K) -> 
 
     // What comes of the script, whoever made it: its lines are judged in their order by the rules alone, its reads are those of
     // plain memory where few bits were turned, and no row has more activations than the bound.
-    ensures judged { (bytes rest text : List ℕ) (h : AnyHeader) → S.left source.old ≡ Some bytes → opening_of bytes ≡ Accepts h text rest → JudgesInOrder h rest }
+    ensures judged { (bytes rest text : List ℕ) (h : AnyHeader) → S.left source.old ≡ Some bytes → opening_of bytes ≡ Accepts h text rest → JudgesInOrder four_devices h rest }
     ensures reads { (bytes rest text : List ℕ) (h : AnyHeader) → S.left source.old ≡ Some bytes → opening_of bytes ≡ Accepts h text rest → ReadsWell h rest }
     ensures bounded { (bytes rest text : List ℕ) (h : AnyHeader) → S.left source.old ≡ Some bytes → opening_of bytes ≡ Accepts h text rest → IsWithinBound h rest }
 
     // A script with nothing to refuse and no broken rule is neither refused nor broken.
     ensures complete { (bytes rest text : List ℕ) (h : AnyHeader) (clock : ℕ) → S.left source.old ≡ Some bytes → opening_of bytes ≡ Accepts h text rest
-        → IsFlawless h rest clock → IsUnblamed result }
+        → IsFlawless four_devices h rest clock → IsUnblamed result }
 
     // A fault is told exactly where it was counted.
     ensures read { result ≡ Status.ReadFault → Rose (S.faults source.old) (S.faults source.new) }

@@ -11,8 +11,8 @@ use command_words::Command;
 use ddr_text::ReportLine;
 use log_auditor::{Auditor, Rule, Verdict};
 
-// The least rule that the command breaks, if it breaks one.
-pub(crate) fn judge(auditor: &mut Auditor, clock: u64, command: Command) -> Option<Rule>
+/// Judges a command behind a log that breaks no rule: the least rule that it breaks, if it breaks one.
+pub fn judge(auditor: &mut Auditor, clock: u64, command: Command) -> Option<Rule>
     requires inside { IsReportLine (geometry_of auditor.old) (ReportLine.Issued clock command) }
     requires fine { IsFineForSome auditor.old }
     ensures judged { (h : AnyHeader) (log : Log) → IsFine auditor.old h log → Judges result auditor.new h clock command log }
@@ -24,8 +24,8 @@ pub(crate) fn judge(auditor: &mut Auditor, clock: u64, command: Command) -> Opti
     }
 }
 
-// The least rule that an end at this clock breaks, if it breaks one.
-pub(crate) fn judge_end(auditor: &mut Auditor, clock: u64) -> Option<Rule>
+/// Judges an end at this clock behind a log that breaks no rule: the least rule that it breaks, if it breaks one.
+pub fn judge_end(auditor: &mut Auditor, clock: u64) -> Option<Rule>
     requires inside { IsReportLine (geometry_of auditor.old) (ReportLine.End clock) }
     requires fine { IsFineForSome auditor.old }
     ensures judged { (h : AnyHeader) (log : Log) → IsFine auditor.old h log → JudgesEnd result h clock log }

@@ -14,7 +14,9 @@ mod shown;
 #[cfg(test)]
 mod tests;
 
-pub use checked_device::{Answer, Checked, CheckedDevice};
+pub use checked_device::{Answer, Checked, CheckedDevice, Waiting};
 pub use exec_loop::exec;
+pub use judging::{judge, judge_end};
 pub use script_line::{ScriptLine, read_script_line, script_lines};
 pub use script_reader::{Next, ScriptReader, Stage};
+pub use shown::{put_command, tell};

@@ -22,8 +22,11 @@ use ddr_io::{Sink, Status};
 use ddr_text::{ReportLine, StatName, Stop, put, put_line, put_lines};
 use log_auditor::{Rule, put_broken};
 
-// Writes the C line of a command, and the D line of an RD, with the number of that C line.
-pub(crate) fn put_command<K: Sink>(
+/// Writes the C line of a command, and the D line of an RD, with the number of that C line.
+///
+/// # Errors
+/// A fault of the sink, or want of memory.
+pub fn put_command<K: Sink>(
     number: u64,
     clock: u64,
     command: Command,
@@ -85,8 +88,8 @@ pub(crate) fn finish<K: Sink>(device: &CheckedDevice, clock: u64, sink: &mut K) 
     }
 }
 
-// Writes the verdict: the line with this number breaks this rule.
-pub(crate) fn tell<K: Sink>(number: u64, rule: Rule, sink: &mut K) -> Status
+/// Writes the verdict: the line with this number breaks this rule. `Broken`, or why it could not be written.
+pub fn tell<K: Sink>(number: u64, rule: Rule, sink: &mut K) -> Status
     ensures written { Closes Status.Broken result (broken_text number rule.0) (K.written sink.old) (K.written sink.new) }
     ensures write { result ≡ Status.WriteFault → Rose (K.faults sink.old) (K.faults sink.new) }
     ensures writes_kept { result ≢ Status.WriteFault → K.faults sink.new ≡ K.faults sink.old }

@@ -1,5 +1,5 @@
 use Rattle.std.proofs.Common.{refl}
-use Rattle.ddr_cli.proofs.CapWords.{none_asked}
+use Rattle.ddr_cli.proofs.NumberWords.{none_asked}
 use Rattle.ddr_cli.proofs.form.ports_form.Goals as goal
 
 pub returns-in-None-cap_behind-clause-none : goal.returns-in-None-cap_behind-clause-none

@@ -1,0 +1,10 @@
+pub mod Acting
+pub mod Bytes
+pub mod Dead
+pub mod Looping
+pub mod Mixed
+pub mod Near
+pub mod Openings
+pub mod Promised
+pub mod StandIns
+pub mod Turning
