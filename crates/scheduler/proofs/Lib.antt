@@ -15,3 +15,5 @@ mod Pressing
 mod Offered
 mod Unraised
 mod Taken
+mod OneTurn
+mod Policed

@@ -1,12 +1,11 @@
 -- The reasons to stop serving requests, said of the controller's choice, are those said of the log and the waiting requests.
-use Rattle.std.proofs.Common.{◌≡◌, ◌∙◌, ℕ, zero, suc, ◌+◌, ◌<◌, ◌≤◌, ◌↔◌, Bool, true, false, not, Option, Some, None, is_some, IsSome, IsNone, IsTrue, List, [], ◌∷◌, length, slice_get, refl, sym, ap, subst, arith, cond, ◌⊎◌, inl, inr}
+use Rattle.std.proofs.Common.{◌≡◌, ◌∙◌, ℕ, suc, ◌+◌, ◌↔◌, Bool, true, false, not, Option, Some, None, is_some, IsSome, IsNone, IsTrue, List, [], ◌∷◌, slice_get, refl, sym, subst, arith, cond, inl, inr}
 use Rattle.command_words.specs.Command.{bank_number}
 use Rattle.command_words.specs.declared.command.Command.{Command}
-use Rattle.command_words.specs.declared.command.Command.TheVariants.{RfmAb}
 use Rattle.command_words.specs.Kinds.{is_rfm_all}
 use Rattle.speed_bin.specs.Alert.{alert}
 use Rattle.speed_bin.specs.Log.{Log, open_at}
-use Rattle.speed_bin.specs.Rules.{MayFollow, after, is_wanted}
+use Rattle.speed_bin.specs.Rules.{MayFollow, after}
 use Rattle.speed_bin.specs.declared.header.Header.{Header}
 use Rattle.refresh_plan.specs.Debts.{IsNothingDue}
 use Rattle.requests.specs.Queue.{Step, places, waiting, in_bank, hits, oldest}
@@ -15,7 +14,6 @@ use Rattle.requests.specs.declared.request.Kind.TheVariants.{Read, Write}
 use Rattle.requests.specs.declared.request.Request.{Request}
 use Rattle.requests.specs.declared.waiting.Waiting.{Waiting}
 use Rattle.requests.specs.Choice.{column_for}
-use Rattle.deadlines.specs.Turns.{IsEcsDue}
 use Rattle.deadlines.specs.declared.task.Task.{Task}
 use Rattle.deadlines.specs.declared.task.Task.TheVariants.{RfmAll}
 use Rattle.scheduler.specs.Backoff.{Offers, OffersColumn, OffersActivate, OffersPrecharge, IsFirstClock, IsPressed, TaskIsSet, NoneWaits, WindowEnds, ScrubIsDue, RefreshIsDue, RfmIsWanted, AnswersAlert, issues_rfm_all}
@@ -51,18 +49,18 @@ stands_from n test (v ∷ ws) w e = go (test v) refl e (λ f. stands_from (suc n
     go true q f ih = record { at = n; index = 0; at_is = omega arith; found = rw q refl; here = f }
     go false q f ih = let k = ih f in record { at = k.at; index = suc k.index; at_is = omega (arith, k.at_is); found = rw q k.found; here = k.here }
 
-record StandsAt (test : Waiting → Bool) (ws : List Waiting) (w : Waiting) : Type 0 where
-  at : ℕ
-  found : first_at test ws ≡ Some at
-  here : slice_get ws at ≡ Some w
+pub record StandsAt (test : Waiting → Bool) (ws : List Waiting) (w : Waiting) : Type 0 where
+  pub at : ℕ
+  pub found : first_at test ws ≡ Some at
+  pub here : slice_get ws at ≡ Some w
 
-stands_at : (test : Waiting → Bool) (ws : List Waiting) (w : Waiting) → oldest test ws ≡ Some w → StandsAt test ws w
+pub stands_at : (test : Waiting → Bool) (ws : List Waiting) (w : Waiting) → oldest test ws ≡ Some w → StandsAt test ws w
 stands_at test ws w e =
     let k = stands_from 0 test ws w e in
     let same : k.index ≡ k.at = omega (arith, k.at_is) in
     record { at = k.at; found = k.found; here = subst (λ i. slice_get ws i ≡ Some w) same k.here }
 
-none_first : (n : ℕ) (test : Waiting → Bool) (ws : List Waiting) → oldest test ws ≡ None → first_from n test ws ≡ None
+pub none_first : (n : ℕ) (test : Waiting → Bool) (ws : List Waiting) → oldest test ws ≡ None → first_from n test ws ≡ None
 none_first n test [] e = refl
 none_first n test (v ∷ ws) e = go (test v) refl e (λ f. none_first (suc n) test ws f)
   where

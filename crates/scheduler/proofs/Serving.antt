@@ -100,7 +100,7 @@ asked_all b low = all_in 32 b low
 promised_hit : (b : ℕ) (ws : List Waiting) (log : Log) → Promise b ws log → first_at (hits b (open_at b log)) ws ≡ None → ⊥
 promised_hit b ws log p e = let f = none_found 0 (hits b (open_at b log)) ws e in let g : oldest (hits b (open_at b log)) ws ≡ Some p.request = subst (λ (o : Option ℕ). oldest (hits b o) ws ≡ Some p.request) (sym p.is_open) p.waits in cc
 
-owed_class : (k : Class) (b at : ℕ) (ws : List Waiting) (log : Log) → Promise b ws log → Wants k ws b log at → k ≡ Column
+pub owed_class : (k : Class) (b at : ℕ) (ws : List Waiting) (log : Log) → Promise b ws log → Wants k ws b log at → k ≡ Column
 owed_class Column b at ws log p wants = refl
 owed_class Activate b at ws log p wants = let e = wants.0 in let f = p.is_open in absurd cc
 owed_class Precharge b at ws log p wants = absurd (promised_hit b ws log p wants.1)
@@ -309,7 +309,7 @@ none_is : (o : Option ℕ) → is_none o ≡ true → o ≡ None
 none_is None e = refl
 none_is (Some x) e = cc
 
-closed_of : (task : Task) (log : Log) → Fits (command_of task) log → (b : ℕ) → b < 32 → task_covers task b ≡ true → open_at b log ≡ None
+pub closed_of : (task : Task) (log : Log) → Fits (command_of task) log → (b : ℕ) → b < 32 → task_covers task b ≡ true → open_at b log ≡ None
 closed_of task log fit b low covered =
     let e = all_below_at 32 (λ i. not (covers (command_of task) i) || is_none (open_at i log)) b (sym (shut_banks task log) ∙ fit.fifth) low in
     none_is (open_at b log) (then (covers (command_of task) b) (is_none (open_at b log)) e (command_covers task b ∙ covered))

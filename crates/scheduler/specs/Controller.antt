@@ -23,6 +23,7 @@ use Rattle.deadlines.specs.Turns.{IsEcsDue}
 use Rattle.deadlines.specs.declared.task.Task.{Task}
 use Rattle.deadlines.specs.declared.task.Task.TheVariants.{RfmAll, Ecs, RefAll, RefSame, RfmSame}
 use Rattle.scheduler.specs.Ledger.{StandsFor as LedgerStandsFor}
+use Rattle.scheduler.specs.Policy.{Hidden}
 use Rattle.scheduler.specs.declared.state.State.{State}
 use Rattle.scheduler.specs.declared.turn.Turn.{Turn}
 use Rattle.scheduler.specs.declared.turn.Turn.TheVariants.{Issue, Idle, Done}
@@ -112,6 +113,10 @@ task_of c = c.task
 -- no more requests come
 unfoldable pub finished_of : State → Bool
 finished_of c = c.finished
+
+-- what it keeps between turns, beside the waiting requests and the log
+abbrev pub hidden_of : State → Hidden
+hidden_of c = record { task = task_of c; from = from_of c; until = until_of c; finished = finished_of c }
 
 abbrev pub number_of : Option RequestId → Option ℕ
 number_of None = None

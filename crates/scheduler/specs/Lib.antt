@@ -5,5 +5,6 @@ pub mod Task
 pub mod Controller
 pub mod Backoff
 pub mod Steps
+pub mod Policy
 pub mod Laws
 pub mod Testing

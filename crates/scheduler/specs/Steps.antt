@@ -20,10 +20,11 @@ use Rattle.requests.specs.declared.request.Request.{Request}
 use Rattle.requests.specs.declared.waiting.Waiting.{Waiting}
 use Rattle.deadlines.specs.Turns.{Decides, IsEcsDue, Turn}
 use Rattle.deadlines.specs.declared.task.Task.{Task}
-use Rattle.deadlines.specs.declared.task.Task.TheVariants.{RefAll, RefSame}
+use Rattle.deadlines.specs.declared.task.Task.TheVariants.{RfmAll, RefAll, RefSame}
 use Rattle.scheduler.specs.Choice.{IsBest, command_for}
 use Rattle.scheduler.specs.Controller.{BetweenTurns, IsCalm, IsTasked, AtRest, banks_of, excused}
 use Rattle.scheduler.specs.Ledger.{StandsFor as LedgerStandsFor}
+use Rattle.scheduler.specs.Policy.{Hidden, Sets}
 use Rattle.scheduler.specs.declared.choice.Candidate.{Candidate}
 use Rattle.scheduler.specs.declared.choice.Class.{Class}
 use Rattle.scheduler.specs.declared.choice.Class.TheVariants.{Column, Activate, Precharge}
@@ -38,6 +39,10 @@ pub record IsAwake (c : State) (h : Header) (offered : List Request) (idle : ℕ
 -- the controller with this least clock of the next command
 abbrev pub with_from : ℕ → State → State
 with_from from c = record c { ledger = record c.ledger { from = from } }
+
+-- what it keeps between turns, by its fields
+abbrev pub hidden_in : State → Hidden
+hidden_in c = record { task = c.task; from = c.ledger.from; until = c.until; finished = c.finished }
 
 -- ---- A command that is to be issued
 
@@ -152,6 +157,12 @@ pub record IsErrand (c : State) (h : Header) (log : Log) (soonest : ℕ) (errand
   pub early : errand.start ≤ soonest
   pub tasked : IsTasked h log errand.start (Some errand.task)
   pub cause : IsCalm h soonest log → ⊥
+
+-- why a task is served: an alert has to be answered, or a task was set before, or what is due sets one
+pub data IsCaused (c : State) (h : Header) (log : Log) (choice : Option Candidate) (soonest : ℕ) (errand : Errand) : Type 0 where
+  ByAlert : (raised : ℕ) → alert h log ≡ Some raised → Urges c h log choice soonest raised → errand ≡ record { task = RfmAll; start = c.ledger.from } → IsCaused c h log choice soonest errand
+  BySetTask : (task : Task) → IsPatient c h log choice soonest → c.task ≡ Some task → errand ≡ record { task = task; start = c.ledger.from } → IsCaused c h log choice soonest errand
+  ByDue : IsPatient c h log choice soonest → c.task ≡ None → Sets h log c.ledger.from soonest (Some errand) → IsCaused c h log choice soonest errand
 
 -- where a task is served
 pub record IsServing (c : State) (h : Header) (offered : List Request) (idle : ℕ) (log : List Step) (errand : Errand) : Type 0 where

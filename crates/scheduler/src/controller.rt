@@ -44,7 +44,8 @@ impl Model for Controller {
 #[tactic(auto, unfolding(crate::specs::Controller::StandsFor, crate::specs::Controller::header_of, crate::specs::Controller::from_of, crate::specs::Controller::until_of, crate::specs::Controller::finished_of, crate::specs::Controller::task_of))]
 impl Controller {
     ghost use Rattle.scheduler.specs.Backoff.{AnswersAlert, IsPressed};
-    ghost use Rattle.scheduler.specs.Controller.{StandsFor, StandsForSome, IsTold, After, header_of, from_of, until_of, finished_of, task_of};
+    ghost use Rattle.scheduler.specs.Controller.{StandsFor, StandsForSome, IsTold, After, header_of, from_of, until_of, finished_of, task_of, hidden_of};
+    ghost use Rattle.scheduler.specs.Policy.{IsTurn, at_first, idled, ended};
 
     /// A controller to which nothing was offered and that issued nothing, at clock 0.
     pub fn new(alloc: Global, header: &Header) -> Result<Controller, OutOfMemory>
@@ -55,6 +56,7 @@ impl Controller {
         ensures until { IfOk result (λ c. until_of c ≡ 0) }
         ensures finished { IfOk result (λ c. finished_of c ≡ false) }
         ensures task { IfOk result (λ c. task_of c ≡ None) }
+        ensures hidden { IfOk result (λ c. hidden_of c ≡ at_first) }
     {
         start();
         starts();
@@ -93,6 +95,7 @@ impl Controller {
         ensures until { until_of self.new ≡ until_of self.old }
         ensures finished { finished_of self.new ≡ finished_of self.old }
         ensures task { task_of self.new ≡ task_of self.old }
+        ensures hidden { hidden_of self.new ≡ hidden_of self.old }
     {
         offered_one();
         after_offer();
@@ -118,6 +121,7 @@ impl Controller {
         ensures from { from_of self.new ≡ from_of self.old }
         ensures finished { finished_of self.new ≡ finished_of self.old }
         ensures task { task_of self.new ≡ task_of self.old }
+        ensures hidden { hidden_of self.new ≡ idled (hidden_of self.old) clocks }
     {
         idle_line();
         self.state.until = self.state.ledger.from + clocks;
@@ -132,6 +136,7 @@ impl Controller {
         ensures header { header_of self.new ≡ header_of self.old }
         ensures from { from_of self.new ≡ from_of self.old }
         ensures until { until_of self.new ≡ until_of self.old }
+        ensures hidden { hidden_of self.new ≡ ended (hidden_of self.old) }
     {
         after_excuse();
         self.state.finished = true;
@@ -156,6 +161,10 @@ impl Controller {
         ensures backs_off { (h : AnyHeader) (offered : List AnyRequest) (idle : ℕ) (log : List Step) (raised : ℕ) → StandsFor h self.old offered idle log → alert ≡ is_some (alert_of h (places log))
             → 8 ≤ length log → alert_of h (places log) ≡ Some raised
             → (AnswersAlert result (task_of self.new) ↔ IsPressed h (waiting h offered log) (places log) (from_of self.old) (task_of self.old) raised) }
+
+        // The turn is the one that the policy asks for, and so is what it leaves.
+        ensures by_policy { (h : AnyHeader) (offered : List AnyRequest) (idle : ℕ) (log : List Step) → StandsFor h self.old offered idle log → alert ≡ is_some (alert_of h (places log))
+            → IsTurn h (hidden_of self.old) (waiting h offered log) (places log) result (hidden_of self.new) }
 
         ensures bound { from_of self.new ≤ max (from_of self.old) (until_of self.old) + 2 ^ 15 }
         ensures header { header_of self.new ≡ header_of self.old }

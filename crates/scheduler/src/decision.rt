@@ -6,7 +6,7 @@ ghost use Rattle.speed_bin.specs.declared.header.Header.{Header as AnyHeader};
 ghost use Rattle.requests.specs.Queue.{Step, places};
 ghost use Rattle.requests.specs.declared.request.Request.{Request as AnyRequest};
 ghost use Rattle.deadlines.specs.Turns.{LooksTo};
-ghost use Rattle.scheduler.specs.Steps.{IsAwake, IsFree, IsErrand, IsPatient, Urges, refresh_task, soonest_in};
+ghost use Rattle.scheduler.specs.Steps.{IsAwake, IsCaused, IsFree, IsErrand, IsPatient, Urges, refresh_task, soonest_in};
 
 use crate::Clock;
 use crate::choice::Candidate;
@@ -58,6 +58,8 @@ impl State {
             → IsErrand self.now h (places log) soonest errand) }
         ensures backs_off { IfSome result (λ errand. (h : AnyHeader) (offered : List AnyRequest) (idle : ℕ) (log : List Step) (raised : ℕ) → IsAwake self.now h offered idle log → alert_of h (places log) ≡ Some raised
             → (errand.task ≡ Task.RfmAll) × Urges self.now h (places log) choice soonest raised) }
+        ensures caused { IfSome result (λ errand. (h : AnyHeader) (offered : List AnyRequest) (idle : ℕ) (log : List Step) → IsAwake self.now h offered idle log
+            → IsCaused self.now h (places log) choice soonest errand) }
     {
         let start = self.ledger.from;
         if self.must_back_off(choice, soonest) {

@@ -20,7 +20,9 @@ ghost use Rattle.requests.specs.declared.waiting.Waiting.{Waiting};
 ghost use Rattle.requests.specs.Window.{window as window_of};
 ghost use Rattle.requests.specs.declared.request.Request.{Request as AnyRequest};
 ghost use Rattle.scheduler.specs.Controller.{StandsFor, header_of, from_of, until_of};
+ghost use Rattle.scheduler.specs.Policy.{Hidden, IsTurn};
 ghost use Rattle.scheduler.specs.declared.state.State.{State as AnyController};
+ghost use Rattle.scheduler.specs.declared.turn.Turn.{Turn as AnyTurn};
 
 /// No rule fails at any place of the list, the newest one among them, none of its commands is a NOP, and no ACT opens the row that its bank's last ACT
 /// opened, unless a REF, an RFM or ECS that covers the bank stands between.
@@ -43,6 +45,15 @@ pub fn sound()
 pub fn held()
     ensures header { (h : AnyHeader) (c : AnyController) (offered : List AnyRequest) (idle : ℕ) (log : List Step) → StandsFor h c offered idle log
         → header_of c ≡ h }
+{}
+
+/// The policy leaves one turn: what it keeps between turns, the waiting requests and the log settle what the turn answers and
+/// what it leaves.
+pub fn one_turn()
+    ensures answer { (h : AnyHeader) (s : Hidden) (offered : List AnyRequest) (log : List Step) (turn other : AnyTurn) (next later : Hidden)
+        → IsTurn h s (waiting h offered log) (places log) turn next → IsTurn h s (waiting h offered log) (places log) other later → turn ≡ other }
+    ensures kept { (h : AnyHeader) (s : Hidden) (offered : List AnyRequest) (log : List Step) (turn other : AnyTurn) (next later : Hidden)
+        → IsTurn h s (waiting h offered log) (places log) turn next → IsTurn h s (waiting h offered log) (places log) other later → next ≡ later }
 {}
 
 /// The requests of one line are served in the order in which they were offered, each once, by a column of its kind and line,

@@ -3,7 +3,9 @@ ghost use Rattle.speed_bin.specs.Header.{IsAccepted};
 ghost use Rattle.scheduler.specs.Controller.{finished_of};
 ghost use Rattle.scheduler.specs.Testing.{HasTaken};
 
-use crate::laws::{bounds, held, in_order, inside, passed, serves, sound, unraised, work};
+use crate::laws::{
+    bounds, held, in_order, inside, one_turn, passed, serves, sound, unraised, work,
+};
 use crate::{Clock, Controller, Turn};
 use command_words::{Command, LineAddr, encode};
 use requests::{Kind, Request, RequestId};
@@ -184,6 +186,7 @@ fn run_text(alloc: Global, text: &[u8], lines: &[Line], wanted: &[Issued]) -> Op
 fn laws_return() {
     sound();
     held();
+    one_turn();
     in_order();
     bounds();
     work();

@@ -4,6 +4,9 @@ use Rattle.requests.specs.Queue.{places}
 use Rattle.deadlines.specs.declared.task.Task.{Task}
 use Rattle.scheduler.specs.Steps.{IsErrand}
 use Rattle.scheduler.proofs.Deciding.{backs_off, goes_on, scrubs, refreshes, manages, free_of}
+use Rattle.scheduler.specs.Policy.{SetsScrub, SetsManagement}
+use Rattle.scheduler.specs.Steps.{IsCaused, BySetTask, ByDue}
+use Rattle.scheduler.proofs.Policed.{caused_by_alert, caused_by_refresh}
 use Rattle.scheduler.proofs.state.State.errand_at.Goals as goal
 
 none_task : (o : Option Task) → ((x : Task) → o ≡ Some x → ⊥) → o ≡ None
@@ -103,3 +106,37 @@ pub returns-in-Some-wanted-clause-backs_off : goal.returns-in-Some-wanted-clause
 returns-in-Some-wanted-clause-backs_off c = λ h offered idle log raised a e.
     let w = c.must_back_off.ensures.no h offered idle log a c.if-must_back_off.false raised e in
     absurd (wanted_some c.wanted.result c.in-Some-wanted.address _ c.in-Some-wanted.is (c.wanted.ensures.none h (places log) a.holds.ledger.stands) w.no_management)
+
+-- ---- Why a task is served
+
+pub returns-then-must_back_off-clause-caused : goal.returns-then-must_back_off-clause-caused
+returns-then-must_back_off-clause-caused c = λ h offered idle log a.
+    caused_by_alert c.args.self.now h (places log) c.args.choice c.args.soonest (c.must_back_off.ensures.yes h offered idle log a c.if-must_back_off.true)
+    (λ raised e. c.must_back_off.ensures.urged h offered idle log raised a c.if-must_back_off.true e)
+
+pub returns-in-Some-clause-caused : goal.returns-in-Some-clause-caused
+returns-in-Some-clause-caused c = λ h offered idle log a.
+    BySetTask c.in-Some.task (c.must_back_off.ensures.no h offered idle log a c.if-must_back_off.false) c.in-Some.is refl
+
+pub returns-then-ecs_due-clause-caused : goal.returns-then-ecs_due-clause-caused
+returns-then-ecs_due-clause-caused c = λ h offered idle log a.
+    ByDue (c.must_back_off.ensures.no h offered idle log a c.if-must_back_off.false) (none_task _ c.in_default.not-Some)
+    (SetsScrub (holds c.ecs_due.result _ c.if-ecs_due.true (c.ecs_due.ensures h (places log) a.holds.ledger.stands)) refl)
+
+pub returns-in-Some-due-clause-caused : goal.returns-in-Some-due-clause-caused
+returns-in-Some-due-clause-caused c = λ h offered idle log a.
+    let ledger = a.holds.ledger.stands in
+    subst (λ (t : Task). IsCaused c.args.self.now h (places log) c.args.choice c.args.soonest (record { task = t; start = c.max-start.result })) (sym c.refresh_of-task.ensures)
+    (caused_by_refresh c.args.self.now h (places log) c.args.choice c.args.soonest c.next_due.result c.max-start.result c.in-Some-due.due (c.must_back_off.ensures.no h offered idle log a c.if-must_back_off.false) (none_task _ c.in_default.not-Some)
+    (holds_not c.ecs_due.result _ c.if-ecs_due.false (c.ecs_due.ensures h (places log) ledger))
+    (some_due c.due.result c.in-Some-due.due _ c.in-Some-due.is (c.due.ensures.none h (places log) ledger))
+    (λ clock. c.next_due.ensures h (places log) clock ledger) c.max-start.ensures
+    (c.in-Some-due.ensures.all h (places log) ledger) (c.in-Some-due.ensures.same h (places log) ledger))
+
+pub returns-in-Some-wanted-clause-caused : goal.returns-in-Some-wanted-clause-caused
+returns-in-Some-wanted-clause-caused c = λ h offered idle log a.
+    let ledger = a.holds.ledger.stands in
+    ByDue (c.must_back_off.ensures.no h offered idle log a c.if-must_back_off.false) (none_task _ c.in_default.not-Some)
+    (SetsManagement c.in-Some-wanted.address (holds_not c.ecs_due.result _ c.if-ecs_due.false (c.ecs_due.ensures h (places log) ledger))
+    (due_none c.due.result _ (none_due _ c.in_default-due.not-Some) (c.due.ensures.none h (places log) ledger))
+    (record { wanted = c.in-Some-wanted.ensures.wanted h (places log) ledger; first = c.in-Some-wanted.ensures.least h (places log) ledger }) refl)

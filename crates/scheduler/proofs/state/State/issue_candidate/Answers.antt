@@ -10,6 +10,7 @@ use Rattle.scheduler.specs.Ledger.{MayIssue}
 use Rattle.scheduler.specs.Steps.{id_for, queue_after}
 use Rattle.scheduler.proofs.Ready.{may_of, issues_of, ledger_of, suits_of, ready_column, ready_other}
 use Rattle.scheduler.proofs.Pressing.{candidate_no_rfm}
+use Rattle.scheduler.proofs.Policed.{left_of, for_column, for_other, one_here}
 use Rattle.scheduler.proofs.state.State.issue_candidate.Goals as goal
 
 pub waiting_at-waiting-requires-clause-inside : goal.waiting_at-waiting-requires-clause-inside
@@ -63,3 +64,23 @@ returns-else-is_column-clause-after c = λ from until finished h offered idle lo
 
 pub returns-else-is_column-clause-serves : goal.returns-else-is_column-clause-serves
 returns-else-is_column-clause-serves c = ap is_rfm_all c.command_for-command.ensures ∙ candidate_no_rfm c.args.candidate.now.class c.waiting_at-waiting.result
+
+pub returns-then-is_column-clause-policy : goal.returns-then-is_column-clause-policy
+returns-then-is_column-clause-policy c = λ w there.
+    let self = c.args.self.now in
+    let v = c.waiting_at-waiting.result in
+    let candidate = c.args.candidate.now in
+    let here = subst (λ xs. slice_get xs candidate.at ≡ Some v) c.as_slice.ensures.value c.waiting_at-waiting.ensures in
+    let same = c.issue.ensures.rest in
+    for_column candidate.class v w candidate.clock c.command_for-command.result _ c.args.task _ (c.is_column.ensures.0 c.if-is_column.true) (one_here self.queue.items candidate.at v w here there) c.command_for-command.ensures
+    (left_of self c.issue.new.self candidate.clock c.args.task (ap (λ (x : State). x.task) same) c.issue.ensures.from (ap (λ (x : State). x.until) same) (ap (λ (x : State). x.finished) same))
+
+pub returns-else-is_column-clause-policy : goal.returns-else-is_column-clause-policy
+returns-else-is_column-clause-policy c = λ w there.
+    let self = c.args.self.now in
+    let v = c.waiting_at-waiting.result in
+    let candidate = c.args.candidate.now in
+    let here = subst (λ xs. slice_get xs candidate.at ≡ Some v) c.as_slice.ensures.value c.waiting_at-waiting.ensures in
+    let same = c.issue.ensures.rest in
+    for_other candidate.class v w candidate.clock c.command_for-command.result _ c.args.task _ (λ e. let t = c.is_column.ensures.1 e in let f = sym t ∙ c.if-is_column.false in cc) (one_here self.queue.items candidate.at v w here there) c.command_for-command.ensures
+    (left_of self c.issue.new.self candidate.clock c.args.task (ap (λ (x : State). x.task) same) c.issue.ensures.from (ap (λ (x : State). x.until) same) (ap (λ (x : State). x.finished) same))

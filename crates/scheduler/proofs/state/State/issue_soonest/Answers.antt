@@ -1,8 +1,10 @@
-use Rattle.std.proofs.Common.{None, refl}
+use Rattle.std.proofs.Common.{None, refl, ap}
 use Rattle.std.proofs.Math.Bridge.{le_prop}
 use Rattle.std.proofs.Math.Logic.{∥∥₁_elim, ∥∥₁_map}
 use Rattle.requests.specs.Queue.{places}
 use Rattle.scheduler.proofs.Ready.{may_of, issues_of, ledger_of, suits_of}
+use Rattle.scheduler.specs.declared.state.State.{State}
+use Rattle.scheduler.proofs.Policed.{left_of}
 use Rattle.scheduler.proofs.state.State.issue_soonest.Goals as goal
 
 pub issue-requires-clause-may : goal.issue-requires-clause-may
@@ -26,3 +28,12 @@ returns-clause-after c = λ from until finished h offered idle log r.
 pub issue-requires-clause-small : goal.issue-requires-clause-small
 issue-requires-clause-small c =
     ∥∥₁_elim c.requires.ready le_prop (λ r. (r.7.ready c.soonest-clock.result (c.soonest-clock.ensures r.3 (places r.6) r.7.ledger)).near)
+
+pub returns-clause-policy : goal.returns-clause-policy
+returns-clause-policy c = λ h log s.
+    let same = c.issue.ensures.rest in record {
+      clock = c.soonest-clock.result;
+      soonest = c.soonest-clock.ensures h log s;
+      issues = refl;
+      leaves = left_of c.args.self.now c.issue.new.self c.soonest-clock.result c.args.task (ap (λ (x : State). x.task) same) c.issue.ensures.from (ap (λ (x : State). x.until) same) (ap (λ (x : State). x.finished) same);
+    }

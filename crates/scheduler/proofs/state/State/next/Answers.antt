@@ -11,6 +11,9 @@ use Rattle.scheduler.proofs.Offering.{offer_ready}
 use Rattle.scheduler.proofs.Starting.{started_of}
 use Rattle.scheduler.proofs.Turning.{choice_of, small_of, serving_of, resting_of, looks_as, before_as, best_of, free_as, after_seen}
 use Rattle.scheduler.proofs.Pressing.{pressed_of, not_pressed, waits_of, not_answered, answers_seen}
+use Rattle.scheduler.specs.Policy.{Starts}
+use Rattle.scheduler.specs.Steps.{hidden_in}
+use Rattle.scheduler.proofs.Policed.{serves_by_policy, offers_by_policy, rests_by_policy, policy_seen}
 use Rattle.scheduler.proofs.state.State.next.Goals as goal
 
 at_none : (o : Option Errand) (P : Type 0) → ((x : Errand) → o ≡ Some x → ⊥) → IfNone o P → P
@@ -184,3 +187,49 @@ returns-in-None-clause-backs_off c = λ h offered idle log raised s alert starte
     let a = c.see.ensures.awake h offered idle log s alert in
     let free = at_none c.errand_at.result _ c.in_default.not-Some c.errand_at.ensures.none h offered idle log a in
     absurd (none_chosen c.choose-choice.result c.in-None.is (free.candidate raised e))
+
+-- ---- The policy
+
+pub returns-then-self-lt8-clause-by_policy : goal.returns-then-self-lt8-clause-by_policy
+unfolding StandsFor from_of until_of finished_of task_of
+returns-then-self-lt8-clause-by_policy c = λ h offered idle log s alert.
+    policy_seen c.args.self.now c.see.new.self h (waiting h offered log) (places log) c.write_register.result (hidden_in c.write_register.new.self) c.see.ensures.rest
+    (Starts (c.write_register.ensures.policy h offered idle log (c.see.ensures.awake h offered idle log s alert)))
+
+pub returns-in-Some-clause-by_policy : goal.returns-in-Some-clause-by_policy
+unfolding StandsFor from_of until_of finished_of task_of
+returns-in-Some-clause-by_policy c = λ h offered idle log s alert.
+    let self = c.see.new.self in
+    let a = c.see.ensures.awake h offered idle log s alert in
+    let i = choice_of c.turn_laws.ensures self h offered idle log c.as_slice.result.now c.choose-choice.result a.holds c.as_slice.ensures.value c.choose-choice.ensures.none c.choose-choice.ensures.some in
+    let e = c.soonest_of-soonest.ensures in
+    let started = started_of self h offered idle log a.holds c.if-self-lt8.false in
+    let serving = serving_of self h offered idle log c.choose-choice.result c.soonest_of-soonest.result c.in-Some.errand a started i e
+    (c.in-Some.ensures.some h offered idle log a (looks_as self h log c.choose-choice.result c.soonest_of-soonest.result i e) (before_as self h log c.choose-choice.result c.soonest_of-soonest.result i e)) in
+    policy_seen c.args.self.now self h (waiting h offered log) (places log) c.serve_task.result (hidden_in c.serve_task.new.self) c.see.ensures.rest
+    (serves_by_policy c.turn_laws.ensures self h offered idle log c.choose-choice.result c.soonest_of-soonest.result c.in-Some.errand c.serve_task.result (hidden_in c.serve_task.new.self) a started i e
+    (c.in-Some.ensures.caused h offered idle log a) (c.serve_task.ensures.policy h offered idle log serving))
+
+pub returns-in-Some-choice-clause-by_policy : goal.returns-in-Some-choice-clause-by_policy
+unfolding StandsFor from_of until_of finished_of task_of
+returns-in-Some-choice-clause-by_policy c = λ h offered idle log s alert.
+    let self = c.see.new.self in
+    let a = c.see.ensures.awake h offered idle log s alert in
+    let i = choice_of c.turn_laws.ensures self h offered idle log c.as_slice.result.now c.choose-choice.result a.holds c.as_slice.ensures.value c.choose-choice.ensures.none c.choose-choice.ensures.some in
+    let e = c.soonest_of-soonest.ensures in
+    let free = at_none c.errand_at.result _ c.in_default.not-Some c.errand_at.ensures.none h offered idle log a in
+    policy_seen c.args.self.now self h (waiting h offered log) (places log) c.issue_candidate.result (hidden_in c.issue_candidate.new.self) c.see.ensures.rest
+    (offers_by_policy self h offered idle log c.in-Some-choice.candidate c.issue_candidate.result (hidden_in c.issue_candidate.new.self) a (started_of self h offered idle log a.holds c.if-self-lt8.false)
+    (best_of self h log c.choose-choice.result c.in-Some-choice.candidate c.in-Some-choice.is i)
+    (free_as self h (places log) c.choose-choice.result c.in-Some-choice.candidate c.soonest_of-soonest.result c.in-Some-choice.is e free) c.issue_candidate.ensures.policy)
+
+pub returns-in-None-clause-by_policy : goal.returns-in-None-clause-by_policy
+unfolding StandsFor from_of until_of finished_of task_of
+returns-in-None-clause-by_policy c = λ h offered idle log s alert.
+    let self = c.see.new.self in
+    let a = c.see.ensures.awake h offered idle log s alert in
+    let i = choice_of c.turn_laws.ensures self h offered idle log c.as_slice.result.now c.choose-choice.result a.holds c.as_slice.ensures.value c.choose-choice.ensures.none c.choose-choice.ensures.some in
+    let free = at_none c.errand_at.result _ c.in_default.not-Some c.errand_at.ensures.none h offered idle log a in
+    let resting = resting_of self h offered idle log c.choose-choice.result c.soonest_of-soonest.result a (started_of self h offered idle log a.holds c.if-self-lt8.false) c.in-None.is i c.soonest_of-soonest.ensures free in
+    policy_seen c.args.self.now self h (waiting h offered log) (places log) c.rest.result (hidden_in c.rest.new.self) c.see.ensures.rest
+    (rests_by_policy self h offered idle log c.rest.result (hidden_in c.rest.new.self) resting (c.rest.ensures.policy h offered idle log resting))

@@ -1,4 +1,4 @@
-use Rattle.std.proofs.Common.{◌≡◌, ◌∙◌, ℕ, None, ap, sym, subst, max}
+use Rattle.std.proofs.Common.{◌≡◌, ◌∙◌, ℕ, None, ap, sym, subst, max, refl}
 use Rattle.std.proofs.Math.Bridge.{le_prop}
 use Rattle.std.proofs.Math.Logic.{∥∥₁_elim, ∥∥₁_map}
 use Rattle.command_words.specs.declared.command.Command.TheVariants.{PreAb}
@@ -7,6 +7,9 @@ use Rattle.scheduler.specs.Steps.{IsReadySoon}
 use Rattle.scheduler.specs.declared.state.State.{State}
 use Rattle.scheduler.specs.declared.ledger.Ledger.{Ledger}
 use Rattle.scheduler.proofs.Resting.{rested, rests_of, ends_right, last_ready}
+use Rattle.scheduler.specs.Policy.{Idles, ShutsAll, IsOver}
+use Rattle.scheduler.specs.Steps.{hidden_in}
+use Rattle.scheduler.proofs.Policed.{soonest_as}
 use Rattle.scheduler.proofs.state.State.rest.Goals as goal
 
 -- the controller at e0
@@ -59,3 +62,22 @@ returns-clause-bound c =
     c.issue_soonest.ensures.bound self.ledger.from self.until self.finished r.0 r.1 r.2 r.3
     (subst (λ (x : State). IsReadySoon x self.ledger.from self.until self.finished r.0 r.1 r.2 r.3 PreAb None) (sym (at_rest self c.wait_until.new.self c.max-soonest.result c.wait_until.ensures.from c.max-soonest.ensures))
     (last_ready c.turn_laws.ensures self r.0 r.1 r.2 r.3 r.4 c.requires.bound c.if-not-self.false opened)))
+
+pub returns-then-not-self-clause-policy : goal.returns-then-not-self-clause-policy
+returns-then-not-self-clause-policy c = λ h offered idle log r.
+    Idles c.if-not-self.true refl (ap (λ (x : State). hidden_in x) (at_rest c.args.self.now c.wait_until.new.self c.max-soonest.result c.wait_until.ensures.from c.max-soonest.ensures))
+
+pub returns-then-all_closed-clause-policy : goal.returns-then-all_closed-clause-policy
+returns-then-all_closed-clause-policy c = λ h offered idle log r.
+    let closed = sym (c.all_closed.ensures h (places log) (c.wait_until.ensures.stands h (places log) r.awake.holds.ledger).stands) ∙ c.if-all_closed.true in
+    IsOver c.if-not-self.false closed refl (ap (λ (x : State). hidden_in x) (at_rest c.args.self.now c.wait_until.new.self c.max-soonest.result c.wait_until.ensures.from c.max-soonest.ensures))
+
+pub returns-clause-policy : goal.returns-clause-policy
+returns-clause-policy c = λ h offered idle log r.
+    let self = c.args.self.now in
+    let stands = c.wait_until.ensures.stands h (places log) r.awake.holds.ledger in
+    let opened = sym (c.all_closed.ensures h (places log) stands.stands) ∙ c.if-all_closed.false in
+    let from = ap (λ (l : Ledger). l.from) c.wait_until.ensures.from ∙ c.max-soonest.ensures in
+    ShutsAll c.if-not-self.false opened
+    (soonest_as h (places log) c.wait_until.new.self.from (max self.ledger.from self.until) PreAb PreAb (hidden_in (record self { ledger = c.wait_until.new.self })) (hidden_in self) None _ _ from refl refl refl
+    (c.issue_soonest.ensures.policy h (places log) stands))

@@ -1,4 +1,4 @@
-use Rattle.std.proofs.Common.{◌≡◌, ◌∙◌, ℕ, ◌<◌, Some, None, Option, List, Bool, true, false, IsTrue, IfNone, ◌↔◌, ap, sym, subst, arith}
+use Rattle.std.proofs.Common.{◌≡◌, ◌∙◌, ℕ, ◌<◌, Some, None, Option, List, Bool, true, false, IsTrue, IfNone, ◌↔◌, ap, sym, subst, arith, refl}
 use Rattle.std.proofs.Math.Bridge.{le_prop}
 use Rattle.std.proofs.Math.Logic.{∥∥₁_elim, ∥∥₁_map}
 use Rattle.command_words.specs.declared.command.Command.{Command}
@@ -15,8 +15,11 @@ use Rattle.scheduler.specs.Steps.{IsReadyFor, IsReadySoon}
 use Rattle.scheduler.specs.Task.{is_asked_for}
 use Rattle.scheduler.specs.declared.state.State.{State}
 use Rattle.scheduler.specs.declared.ledger.Ledger.{Ledger}
-use Rattle.scheduler.proofs.Serving.{column_ready, all_paid, shut_ready, end_ready}
+use Rattle.scheduler.proofs.Serving.{closed_of, column_ready, all_paid, shut_ready, end_ready}
 use Rattle.scheduler.proofs.Turning.{at_none, best_as}
+use Rattle.scheduler.specs.Policy.{Shuts, EndsTask}
+use Rattle.scheduler.specs.Steps.{hidden_in}
+use Rattle.scheduler.proofs.Policed.{pays_column, covers_open, for_as, soonest_as, offer_of}
 use Rattle.scheduler.proofs.state.State.serve_task.Goals as goal
 
 pub wait_until-requires : goal.wait_until-requires
@@ -180,3 +183,42 @@ returns-clause-bound c =
     (subst (λ x. IsReadySoon (record self { ledger = c.wait_until.new.self }) self.ledger.from self.until self.finished r.0 r.1 r.2 r.3 x None) (sym c.command_of-command.ensures)
     (subst (λ (x : State). IsReadySoon x self.ledger.from self.until self.finished r.0 r.1 r.2 r.3 (command_of errand.task) None) (sym (ap (λ (l : Ledger). record self { ledger = l }) same))
     (end_ready c.turn_laws.ensures self r.0 r.1 r.2 r.3 errand r.4 c.requires.bound fit))))
+
+-- ---- The policy
+
+pub returns-in-Some-clause-policy : goal.returns-in-Some-clause-policy
+returns-in-Some-clause-policy c = λ h offered idle log r.
+    let self = c.args.self.now in
+    let errand = c.args.errand in
+    let same = c.wait_until.ensures.from in
+    let candidate = c.in-Some.candidate in
+    pays_column self h offered idle log errand c.owed_for-asked.result candidate _ _ r (asked_for errand.task c.owed_for-asked.result self.ledger c.wait_until.new.self errand.start same c.owed_for-asked.ensures)
+    (best_as h c.as_slice.result.now self.queue.items (places log) c.wait_until.new.self.from errand.start c.owed_for-asked.result candidate c.as_slice.ensures.value (ap (λ (l : Ledger). l.from) same)
+    (c.in-Some.ensures.some h (places log) (c.wait_until.ensures.stands h (places log) r.awake.holds.ledger)))
+    (λ w here. for_as (offer_of candidate.class w candidate.clock) (hidden_in (record self { ledger = c.wait_until.new.self })) (hidden_in self) (Some errand.task) _ _ refl refl (c.issue_candidate.ensures.policy w here))
+
+pub returns-then-not-fits-clause-policy : goal.returns-then-not-fits-clause-policy
+returns-then-not-fits-clause-policy c = λ h offered idle log r.
+    let self = c.args.self.now in
+    let errand = c.args.errand in
+    let same = c.wait_until.ensures.from in
+    let asked = c.owed_for-asked.result in
+    let paid = all_paid self h offered idle log errand.task asked r.awake.holds (asked_for errand.task asked self.ledger c.wait_until.new.self errand.start same c.owed_for-asked.ensures) (silent asked c.as_slice.result.now self.queue.items c.choose.result c.as_slice.ensures.value c.in_default.not-Some c.choose.ensures.none) in
+    let stands = c.wait_until.ensures.stands h (places log) r.awake.holds.ledger in
+    let no_fit = not_fit c.command_of-command.result (command_of errand.task) (places log) c.fits.result c.command_of-command.ensures (c.fits.ensures h (places log) stands) c.if-not-fits.true in
+    Shuts paid (covers_open errand.task (places log) no_fit)
+    (soonest_as h (places log) c.wait_until.new.self.from errand.start c.precharge_of.result (precharge_of errand.task) (hidden_in (record self { ledger = c.wait_until.new.self })) (hidden_in self) (Some errand.task) _ _ (ap (λ (l : Ledger). l.from) same) c.precharge_of.ensures refl refl
+    (c.issue_soonest.ensures.policy h (places log) stands))
+
+pub returns-clause-policy : goal.returns-clause-policy
+returns-clause-policy c = λ h offered idle log r.
+    let self = c.args.self.now in
+    let errand = c.args.errand in
+    let same = c.wait_until.ensures.from in
+    let asked = c.owed_for-asked.result in
+    let paid = all_paid self h offered idle log errand.task asked r.awake.holds (asked_for errand.task asked self.ledger c.wait_until.new.self errand.start same c.owed_for-asked.ensures) (silent asked c.as_slice.result.now self.queue.items c.choose.result c.as_slice.ensures.value c.in_default.not-Some c.choose.ensures.none) in
+    let stands = c.wait_until.ensures.stands h (places log) r.awake.holds.ledger in
+    let fit = fits_own c.command_of-command.result (command_of errand.task) (places log) c.fits.result c.command_of-command.ensures (c.fits.ensures h (places log) stands) c.if-not-fits.false in
+    EndsTask paid (closed_of errand.task (places log) fit)
+    (soonest_as h (places log) c.wait_until.new.self.from errand.start c.command_of-command.result (command_of errand.task) (hidden_in (record self { ledger = c.wait_until.new.self })) (hidden_in self) None _ _ (ap (λ (l : Ledger). l.from) same) c.command_of-command.ensures refl refl
+    (c.issue_soonest-2.ensures.policy h (places log) stands))

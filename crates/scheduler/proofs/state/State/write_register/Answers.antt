@@ -3,6 +3,8 @@ use Rattle.std.proofs.Math.Bridge.{le_prop}
 use Rattle.std.proofs.Math.Logic.{∥∥₁_elim, ∥∥₁_map}
 use Rattle.std.proofs.Math.Nat.{ℕ_set}
 use Rattle.scheduler.proofs.Starting.{write_ready}
+use Rattle.requests.specs.Queue.{places}
+use Rattle.scheduler.proofs.Policed.{write_of}
 use Rattle.scheduler.proofs.state.State.write_register.Goals as goal
 
 pub write_at-requires-clause-eight : goal.write_at-requires-clause-eight
@@ -37,3 +39,9 @@ returns-clause-bound c =
     let self = c.args.self.now in
     c.issue_soonest.ensures.bound self.ledger.from self.until self.finished a.0 a.1 a.2 a.3
     (write_ready c.turn_laws.ensures self a.0 a.1 a.2 a.3 c.write_at.result a.4 c.requires.bound c.requires.starting (subst (λ ws. slice_get ws self.ledger.written ≡ Some c.write_at.result) c.as_slice.ensures.value c.write_at.ensures)))
+
+pub returns-clause-policy : goal.returns-clause-policy
+returns-clause-policy c = λ h offered idle log a.
+    let self = c.args.self.now in
+    write_of self h offered idle log c.write_at.result _ _ a c.requires.starting (subst (λ ws. slice_get ws self.ledger.written ≡ Some c.write_at.result) c.as_slice.ensures.value c.write_at.ensures)
+    (c.issue_soonest.ensures.policy h (places log) a.holds.ledger)
