@@ -110,6 +110,7 @@ fn run_behind<S: Source, K: Sink>(
 }
 
 // Runs the lines behind the opening.
+#[inline(never)]
 fn run_lines<S: Source, K: Sink>(
     header: &Header,
     device: &mut CheckedDevice,

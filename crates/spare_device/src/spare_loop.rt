@@ -122,6 +122,7 @@ fn run_behind<S: Source, K: Sink>(
 }
 
 // Runs the lines behind the opening.
+#[inline(never)]
 fn run_lines<S: Source, K: Sink>(
     dead: u8,
     header: &Header,
