@@ -5,6 +5,7 @@ use Rattle.std.specs.Io.KnownBytes.{Appends}
 use Rattle.ddr_io.specs.declared.status.Status.{Status}
 use Rattle.ddr_io.specs.declared.status.Status.TheVariants as status
 use Rattle.command_words.specs.Geometry.{IsGroups, lines_of}
+use Rattle.ddr_text.specs.Io.{io}
 use Rattle.ddr_text.specs.AcceptedReport.{ReportLines}
 use Rattle.ddr_text.specs.Opening.{Accepts, opening_of, parts_of}
 use Rattle.ddr_text.specs.ReportParts.{Refusal, places_of, refusal_lines}
@@ -124,7 +125,7 @@ audited laws h job text rest trace refusal bytes accepted opens limits told writ
 
 -- ---- The answer of an audit
 
-pub says : (bytes : List ℕ) (answer : Status) (left before after : Option (List ℕ)) → IsAuditedOk bytes → Answers answer (Some bytes) left before after → SaysOk answer before after
+pub says : (bytes : List ℕ) (answer : Status) (left before after : Option (List ℕ)) → IsAuditedOk bytes → Answers answer (io (Some bytes) left before after) → SaysOk answer before after
 says bytes status.Ok left before after ok answers =
     let written = answers.0 in
     subst (Appends before after) (ap finding_text (sym written.1) ∙ ok.text) written.3

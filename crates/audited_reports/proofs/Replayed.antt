@@ -4,6 +4,7 @@ use Rattle.std.specs.Prelude.{⊤, IfSome, nat_lt}
 use Rattle.command_words.specs.Geometry.{Shape}
 use Rattle.command_words.specs.declared.words.WordFault.TheVariants as word
 use Rattle.ddr_io.specs.declared.status.Status.TheVariants as status
+use Rattle.ddr_text.specs.Io.{io}
 use Rattle.ddr_text.specs.Grammar.{trace_line_of}
 use Rattle.ddr_text.specs.Opening.{Accepts, Refuses, is_long, opening_of, parts_of}
 use Rattle.ddr_text.specs.Reason.{fault_reason}
@@ -92,13 +93,13 @@ reported law h job text rest report trace refused opens traced limits r =
     law h job text rest trace (refusal_of trace refused) report opens (record { inside = limits.inside; few = limits.few; idle = limits.idle }) (told (shape_of h) rest trace refused traced limits.few)
     (r.run, r.clock, r.is_run, r.wrote)
 
-pub finished : Law → (job report : List ℕ) (left : Option (List ℕ)) → Answers status.Ok (Some job) left (Some []) (Some report) → IsAuditedOk report
+pub finished : Law → (job report : List ℕ) (left : Option (List ℕ)) → Answers status.Ok (io (Some job) left (Some []) (Some report)) → IsAuditedOk report
 finished law job report left (inl a) = reported law a.0 job a.1 a.4.0 report a.2 a.3 a.4.1 a.4.2 a.5 a.6.2
 finished law job report left (inr (inl a)) = absurd a.5
 finished law job report left (inr (inr (inl a))) = absurd a.2
 finished law job report left (inr (inr (inr a))) = absurd a
 
-pub refused : Law → (h : Header) (job text rest report : List ℕ) (left : Option (List ℕ)) → opening_of job ≡ Accepts h text rest → Answers status.Refused (Some job) left (Some []) (Some report) → IsAuditedOk report
+pub refused : Law → (h : Header) (job text rest report : List ℕ) (left : Option (List ℕ)) → opening_of job ≡ Accepts h text rest → Answers status.Refused (io (Some job) left (Some []) (Some report)) → IsAuditedOk report
 refused law h job text rest report left opens (inl a) = reported law a.0 job a.1 a.4.0 report a.2 a.3 a.4.1 a.4.2 a.5 a.6.1
 refused law h job text rest report left opens (inr (inl a)) = absurd a.5
 refused law h job text rest report left opens (inr (inr (inl a))) = absurd (let no : Accepts h text rest ≡ Refuses a.0 = sym opens ∙ a.1 in cc)

@@ -32,16 +32,16 @@ pub fn finished_report_is_ok()
 /// Of bytes that are audited Ok an audit says `A ok`, unless it is stopped by a fault or want of memory.
 pub fn audit_says_ok()
     ensures answer { (bytes : List ℕ) (answer : Status) (left before after : Option (List ℕ)) → IsAuditedOk bytes
-        → Answers answer (Some bytes) left before after → SaysOk answer before after }
+        → Answers answer (record { had = Some bytes; left = left; written_before = before; written_after = after }) → SaysOk answer before after }
 {}
 
 /// What a replay writes of a job is audited Ok, where it answers Ok, and also where it refuses a line of the trace: where it
 /// answers Refused, and the opening of the job is accepted.
 pub fn replayed_report_is_ok()
     ensures finished { (job report : List ℕ) (left : Option (List ℕ))
-        → ReplayAnswers status.Ok (Some job) left (Some []) (Some report) → IsAuditedOk report }
+        → ReplayAnswers status.Ok (record { had = Some job; left = left; written_before = Some []; written_after = Some report }) → IsAuditedOk report }
     ensures refused { (h : Header) (job text rest report : List ℕ) (left : Option (List ℕ)) → opening_of job ≡ Accepts h text rest
-        → ReplayAnswers status.Refused (Some job) left (Some []) (Some report) → IsAuditedOk report }
+        → ReplayAnswers status.Refused (record { had = Some job; left = left; written_before = Some []; written_after = Some report }) → IsAuditedOk report }
 {
     finished_report_is_ok();
 }

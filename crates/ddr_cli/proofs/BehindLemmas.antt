@@ -9,6 +9,7 @@ use Rattle.ddr_io.specs.Sink.{AppendsPrefix}
 use Rattle.ddr_io.specs.declared.line_reader.Line.TheVariants.{Text as TextAnswer}
 use Rattle.ddr_io.specs.declared.status.Status.{Status}
 use Rattle.ddr_io.specs.declared.status.Status.TheVariants as status
+use Rattle.ddr_text.specs.Io.{io}
 use Rattle.ddr_text.specs.Outcome.{AnswersAs, Outcome, ReadsAll, RefusesLine, refusal_status, refusal_text}
 use Rattle.ddr_text.specs.Spelling.{spelled}
 use Rattle.ddr_text.specs.Stop.{WriteCause, status_of}
@@ -61,12 +62,12 @@ begins line_text first it start left before after lines behind so_far =
     (p.0, p.1, subst (AppendsPrefix before after) (sym p.3) (prefix-longer before after (flat_map line_text lines) p.2 so_far))
 
 -- the source had a fault
-pub writes_fault : (line_text : ReportLine → List ℕ) (first it : Place) (start left old new before after : Option (List ℕ)) (lines : List ReportLine) → LeftOf (lines_left first) start lines it left → Appends before after (flat_map line_text lines) → AnswersAs (IsOutcomeBehind line_text first start) status.ReadFault old new before after
+pub writes_fault : (line_text : ReportLine → List ℕ) (first it : Place) (start left old new before after : Option (List ℕ)) (lines : List ReportLine) → LeftOf (lines_left first) start lines it left → Appends before after (flat_map line_text lines) → AnswersAs (IsOutcomeBehind line_text first start) status.ReadFault (io old new before after)
 writes_fault line_text first it start left old new before after lines behind so_far = begins line_text first it start left before after lines behind (prefix-whole before after (flat_map line_text lines) so_far)
 
 -- a line could not be written
 pub writes_cut : (line_text : ReportLine → List ℕ) (first it next : Place) (start now left old new before middle after : Option (List ℕ)) (lines : List ReportLine) (line : ReportLine) (faults later : ℕ) (stop : Stop) → LeftOf (lines_left first) start lines it now → IsStep it next now left (Line line) → Appends before middle (flat_map line_text lines) → AppendsPrefix middle after (line_text line) → WriteCause faults later stop
-    → AnswersAs (IsOutcomeBehind line_text first start) (status_of stop) old new before after
+    → AnswersAs (IsOutcomeBehind line_text first start) (status_of stop) (io old new before after)
 writes_cut line_text first it next start now left old new before middle after lines line faults later stop behind step so_far cut cause =
     let p = outcome_prefix line_text first next start left (lines ++ line ∷ []) (left_next (lines_left first) start now left lines line it next behind step) in
     let far : AppendsPrefix before after (flat_map line_text (lines ++ line ∷ [])) = subst (AppendsPrefix before after) (sym (text_more line_text lines line)) (prefix-behind before middle after (flat_map line_text lines) (line_text line) so_far cut) in
@@ -82,7 +83,7 @@ refused_left it new (Some xs) after number reason step bytes e = let same : xs �
 
 -- all lines were written
 pub writes_all : (line_text : ReportLine → List ℕ) (first it next : Place) (old new left before after : Option (List ℕ)) (kept held : List ℕ) (lines : List ReportLine) → LeftOf (lines_left first) (next_bytes kept old) lines it left → IsStep it next left (next_bytes held new) End → Appends before after (flat_map line_text lines)
-    → AnswersAs (IsOutcomeBehind line_text first (next_bytes kept old)) status.Ok old new before after
+    → AnswersAs (IsOutcomeBehind line_text first (next_bytes kept old)) status.Ok (io old new before after)
 writes_all line_text first it next old new left before after kept held lines behind step so_far = (
   (
     record { text = flat_map line_text lines ++ []; status = status.Ok },
@@ -95,7 +96,7 @@ writes_all line_text first it next old new left before after kept held lines beh
 
 -- a line was refused
 pub writes_refusal : (line_text : ReportLine → List ℕ) (first it next : Place) (start left later old new before middle after : Option (List ℕ)) (lines : List ReportLine) (number reason : ℕ) (answer : Status) → LeftOf (lines_left first) start lines it left → IsStep it next left later (RefusedNext number reason) → Appends before middle (flat_map line_text lines) → RefusesLine answer number reason middle after
-    → AnswersAs (IsOutcomeBehind line_text first start) answer old new before after
+    → AnswersAs (IsOutcomeBehind line_text first start) answer (io old new before after)
 writes_refusal line_text first it next start left later old new before middle after lines number reason status.Refused behind step so_far refuses = (
   record { text = flat_map line_text lines ++ spelled (Refused number reason); status = status.Refused },
   outcome_with line_text first it start left lines (record { lines = []; refusal = refusal_at number (Some reason) }) behind (refused_left it next left later number reason step),

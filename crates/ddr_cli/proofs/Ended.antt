@@ -4,6 +4,7 @@ use Rattle.std.specs.Prelude.{String}
 use Rattle.std.specs.declared.alloc.Global.{Global}
 use Rattle.ddr_io.specs.declared.Status.{Status}
 use Rattle.ddr_io.specs.declared.Status.TheVariants as status
+use Rattle.ddr_text.specs.Io.{io}
 use Rattle.ddr_text.specs.Outcome.{AnswersAs}
 use Rattle.device_exec.specs.Executed.{IsExecuted}
 use Rattle.fair_queue.specs.Answering.{MergeAnswers}
@@ -24,17 +25,17 @@ use Rattle.ddr_cli.specs.declared.form.Form.TheVariants as form
 
 -- what a run says of each form of words, it says of the one that the words are of
 pub done_of : (words : List (String Global)) (it : Status) (left rest had has : Option (List ℕ))
-    → (IsReplay words → Answers it left rest had has)
-    → (IsAudit words → AuditAnswers it left rest had has)
-    → (IsShow words → ShowAnswers it left rest had has)
-    → (IsUpgrade words → UpgradeAnswers it left rest had has)
+    → (IsReplay words → Answers it (io left rest had has))
+    → (IsAudit words → AuditAnswers it (io left rest had has))
+    → (IsShow words → ShowAnswers it (io left rest had has))
+    → (IsUpgrade words → UpgradeAnswers it (io left rest had has))
     → ((seed requests : ℕ) → IsGen words seed requests → Writes it had has (made seed requests))
     → ((seed requests : ℕ) → IsGenRun words seed requests → MadeAnswers it seed requests had has)
-    → ((cap : ℕ) → IsPorts words cap → PortsAnswers cap it left rest had has)
-    → ((cap : ℕ) → IsMerge words cap → MergeAnswers cap it left rest had has)
-    → (IsExec words → AnswersAs (IsExecuted left) it left rest had has)
-    → ((dead : ℕ) → IsSpare words dead → AnswersAs (IsSpared dead left) it left rest had has)
-    → (which : Form) → IsOfForm words which → IsDone which it left rest had has
+    → ((cap : ℕ) → IsPorts words cap → PortsAnswers cap it (io left rest had has))
+    → ((cap : ℕ) → IsMerge words cap → MergeAnswers cap it (io left rest had has))
+    → (IsExec words → AnswersAs (IsExecuted left) it (io left rest had has))
+    → ((dead : ℕ) → IsSpare words dead → AnswersAs (IsSpared dead left) it (io left rest had has))
+    → (which : Form) → IsOfForm words which → IsDone which it (io left rest had has)
 done_of words it left rest had has replayed audited shown upgraded made made_run ported merged executed spared form.Replay is = replayed is
 done_of words it left rest had has replayed audited shown upgraded made made_run ported merged executed spared form.Audit is = audited is
 done_of words it left rest had has replayed audited shown upgraded made made_run ported merged executed spared form.Show is = shown is

@@ -3,6 +3,7 @@ use Rattle.std.proofs.Common.{◌≡◌, ◌∙◌, ◌≤◌, ℕ, false, is_so
 use Rattle.std.specs.List.{flat_map}
 use Rattle.ddr_io.specs.declared.status.Status.{Status}
 use Rattle.ddr_io.specs.declared.status.Status.TheVariants as status
+use Rattle.ddr_text.specs.Io.{io}
 use Rattle.ddr_text.specs.Spelling.{spelled}
 use Rattle.ddr_text.specs.declared.lines.ReportLine.TheVariants.{End as EndLine}
 use Rattle.ddr_text.specs.declared.lines.TraceLine.{TraceLine}
@@ -35,7 +36,7 @@ none_some (Some reason) e = absurd cc
 
 -- a run of it that is finished has no refusal, and this ends its report
 pub is_made_end : Laws → (seed requests : ℕ) → requests ≤ 1048576 → (bytes : List ℕ) (ending : Ending) (left before after : Option (List ℕ)) → bytes ≡ made seed requests
-    → RunAnswers (Finished ending) (Some bytes) left before after
+    → RunAnswers (Finished ending) (io (Some bytes) left before after)
     → ((h : Header) (text : List ℕ) (trace : List TraceLine) → IsJobOf (Some bytes) h text trace None → IsUnrefused (Finished ending))
     → IsMadeEnd seed requests (flat_map spelled (end_lines ending))
 is_made_end laws seed requests few bytes ending left before after same (h, text, trace, refused, job, within, served) complete =

@@ -10,6 +10,7 @@ use Rattle.ddr_io.specs.Sink.{AppendsPrefix}
 use Rattle.ddr_io.specs.declared.line_reader.Line.TheVariants.{Text as TextAnswer}
 use Rattle.ddr_io.specs.declared.status.Status.{Status}
 use Rattle.ddr_io.specs.declared.status.Status.TheVariants as status
+use Rattle.ddr_text.specs.Io.{io}
 use Rattle.ddr_text.specs.Apart.{HasParts, IsApart}
 use Rattle.ddr_text.specs.AcceptedReport.{ReportLines}
 use Rattle.ddr_text.specs.Opening.{Heading, behind, heading_in, opening_text, parts_of, with_feed}
@@ -79,7 +80,7 @@ upgrades-known laws bytes left heading h text separator first s a b c parts foun
 pub upgrades-accepted : ReportLines → (answer : Status) (old mid new before middle after : Option (List ℕ)) (held : List ℕ) (h : Header) (text separator : List ℕ) (first : Place) → first.shape ≡ shape_of h → first.stage ≡ Body → first.number ≡ 1
     → IsApart (next_bytes [] old) (next_bytes held mid) (Accepted h text separator) → (heading : Heading) × HasParts heading h text separator
     → ((line : List ℕ) → separator ≡ with_feed line → Appends before middle (front text line))
-    → AnswersAs (IsOutcomeBehind spelled first (next_bytes held mid)) answer mid new middle after → AnswersAs (IsUpgraded old) answer old new before after
+    → AnswersAs (IsOutcomeBehind spelled first (next_bytes held mid)) answer (io mid new middle after) → AnswersAs (IsUpgraded old) answer (io old new before after)
 upgrades-accepted laws answer None mid new before middle after held h text separator first a b c opened (heading, parts) put answers =
     answers-behind (IsOutcomeBehind spelled first (next_bytes held mid)) (IsUpgraded None) (front text heading.separator) answer None mid new before middle after (put heading.separator parts.separator_is) (λ s is. tt) (λ all. tt) answers
 upgrades-accepted laws answer (Some bytes) mid new before middle after held h text separator first a b c (heading, parts, found, left) known put answers =
@@ -88,7 +89,7 @@ upgrades-accepted laws answer (Some bytes) mid new before middle after held h te
 
 -- a write that stopped within the heading
 pub upgrades-cut : ReportLines → (stop : Stop) (faults later : ℕ) (old new mid before after : Option (List ℕ)) (h : Header) (text separator : List ℕ) → IsApart (next_bytes [] old) mid (Accepted h text separator)
-    → (heading : Heading) × HasParts heading h text separator → ((line : List ℕ) → separator ≡ with_feed line → AppendsPrefix before after (front text line)) → WriteCause faults later stop → AnswersAs (IsUpgraded old) (status_of stop) old new before after
+    → (heading : Heading) × HasParts heading h text separator → ((line : List ℕ) → separator ≡ with_feed line → AppendsPrefix before after (front text line)) → WriteCause faults later stop → AnswersAs (IsUpgraded old) (status_of stop) (io old new before after)
 upgrades-cut laws stop faults later None new mid before after h text separator opened (heading, parts) cut cause =
     answers-cut (IsUpgraded None) (record { text = front text heading.separator; status = status.Ok }) stop faults later None new before after tt (cut heading.separator parts.separator_is) cause
 upgrades-cut laws stop faults later (Some bytes) new mid before after h text separator (heading, parts, found, left) known cut cause =
@@ -107,7 +108,7 @@ refused-known : (old mid : Option (List ℕ)) (reason : ℕ) → IsApart (next_b
 refused-known None mid reason opened = tt
 refused-known (Some bytes) mid reason opened = upgraded-refused bytes reason opened
 
-pub upgrades-refused : (answer : Status) (old mid new before after : Option (List ℕ)) (reason : ℕ) → IsApart (next_bytes [] old) mid (Refused reason) → RefusesLine answer 0 reason before after → AnswersAs (IsUpgraded old) answer old new before after
+pub upgrades-refused : (answer : Status) (old mid new before after : Option (List ℕ)) (reason : ℕ) → IsApart (next_bytes [] old) mid (Refused reason) → RefusesLine answer 0 reason before after → AnswersAs (IsUpgraded old) answer (io old new before after)
 upgrades-refused answer old mid new before after reason opened refuses = answers-refused (IsUpgraded old) answer reason old new before after (refused-known old mid reason opened) refuses
 
 some-upgraded : (old : Option (List ℕ)) → (s : Outcome) × IsUpgraded old s

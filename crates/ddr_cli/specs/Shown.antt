@@ -6,6 +6,7 @@ use Rattle.command_words.specs.declared.command.Command.{Command}
 use Rattle.command_words.specs.declared.command.Command.TheVariants.{Act, Rd, Wr, PrePb, PreSb, PreAb, RefAb, RefSb, RfmAb, RfmSb, Mrw, Ecs, Nop}
 use Rattle.command_words.specs.declared.place.Bank.{Bank}
 use Rattle.ddr_io.specs.declared.status.Status.{Status}
+use Rattle.ddr_text.specs.Io.{Io}
 use Rattle.ddr_text.specs.Opening.{Opens, Accepts, Refuses as RefusesOpening, opening_of, parts_of}
 use Rattle.ddr_text.specs.declared.lines.ReportLine.{ReportLine}
 use Rattle.ddr_text.specs.declared.lines.ReportLine.TheVariants.{Issued, Value, Flip, Stat, End, Refused}
@@ -61,5 +62,5 @@ IsShown None it = ⊤
 IsShown (Some bytes) it = shown bytes ≡ it
 
 -- What `show` answers.
-abbrev pub ShowAnswers : Status → Option (List ℕ) → Option (List ℕ) → Option (List ℕ) → Option (List ℕ) → Type 0
-ShowAnswers answer old new before after = AnswersAs (IsShown old) answer old new before after
+abbrev pub ShowAnswers : Status → Io → Type 0
+ShowAnswers answer io = AnswersAs (IsShown io.had) answer io

@@ -3,6 +3,7 @@ use Rattle.std.specs.Prelude.{ℕ, ◌≡◌, ◌⊎◌, List, None}
 use Rattle.std.specs.declared.option.Option.{Option}
 use Rattle.ddr_io.specs.declared.Status.{Status}
 use Rattle.ddr_io.specs.declared.Status.TheVariants as status
+use Rattle.ddr_text.specs.Io.{Io, io}
 use Rattle.ddr_text.specs.Outcome.{AnswersAs}
 use Rattle.device_exec.specs.Executed.{IsExecuted}
 use Rattle.fair_queue.specs.Answering.{MergeAnswers}
@@ -20,21 +21,21 @@ use Rattle.ddr_cli.specs.declared.form.Form.{Form}
 use Rattle.ddr_cli.specs.declared.form.Form.TheVariants as form
 
 -- what a form of words asks for is answered with this status, by the input and the output before and after
-abbrev pub IsDone : Form → Status → Option (List ℕ) → Option (List ℕ) → Option (List ℕ) → Option (List ℕ) → Type 0
-IsDone form.Replay it left rest had has = Answers it left rest had has
-IsDone form.Audit it left rest had has = AuditAnswers it left rest had has
-IsDone form.Show it left rest had has = ShowAnswers it left rest had has
-IsDone form.Upgrade it left rest had has = UpgradeAnswers it left rest had has
-IsDone (form.Gen seed requests) it left rest had has = Writes it had has (made seed requests)
-IsDone (form.GenRun seed requests) it left rest had has = MadeAnswers it seed requests had has
-IsDone (form.Ports cap) it left rest had has = PortsAnswers cap it left rest had has
-IsDone (form.Merge cap) it left rest had has = MergeAnswers cap it left rest had has
-IsDone form.Exec it left rest had has = AnswersAs (IsExecuted left) it left rest had has
-IsDone (form.Spare dead) it left rest had has = AnswersAs (IsSpared dead left) it left rest had has
+abbrev pub IsDone : Form → Status → Io → Type 0
+IsDone form.Replay it io = Answers it io
+IsDone form.Audit it io = AuditAnswers it io
+IsDone form.Show it io = ShowAnswers it io
+IsDone form.Upgrade it io = UpgradeAnswers it io
+IsDone (form.Gen seed requests) it io = Writes it io.written_before io.written_after (made seed requests)
+IsDone (form.GenRun seed requests) it io = MadeAnswers it seed requests io.written_before io.written_after
+IsDone (form.Ports cap) it io = PortsAnswers cap it io
+IsDone (form.Merge cap) it io = MergeAnswers cap it io
+IsDone form.Exec it io = AnswersAs (IsExecuted io.had) it io
+IsDone (form.Spare dead) it io = AnswersAs (IsSpared dead io.had) it io
 
 -- what a reader gave is answered with this status; nothing is said of what was written
 abbrev pub IsDoneFor : Form → Option (List ℕ) → Status → Type 0
-IsDoneFor it left end = (rest : Option (List ℕ)) × IsDone it end left rest None None
+IsDoneFor it left end = (rest : Option (List ℕ)) × IsDone it end (io left rest None None)
 
 -- the status is one of which this holds; or an answer of which it holds could not be handed on; or memory ran out
 abbrev pub EndsAs : (Status → Type 0) → Status → Type 0

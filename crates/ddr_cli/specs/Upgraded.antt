@@ -8,6 +8,7 @@ use Rattle.speed_bin.specs.Header.{shape_of}
 use Rattle.speed_bin.specs.declared.fault.HeaderFault.{HeaderFault}
 use Rattle.speed_bin.specs.declared.header.Header.{Header}
 use Rattle.ddr_io.specs.declared.status.Status.{Status}
+use Rattle.ddr_text.specs.Io.{Io}
 use Rattle.ddr_text.specs.Opening.{Heading, heading_in, opening_text, behind, parts_of, with_feed, reason_of}
 use Rattle.ddr_text.specs.ReportParts.{Refusal}
 use Rattle.ddr_text.specs.ReportReading.{Lines, lines_in}
@@ -64,5 +65,5 @@ IsUpgraded None it = ⊤
 IsUpgraded (Some bytes) it = upgraded bytes ≡ it
 
 -- What `upgrade` answers.
-abbrev pub UpgradeAnswers : Status → Option (List ℕ) → Option (List ℕ) → Option (List ℕ) → Option (List ℕ) → Type 0
-UpgradeAnswers answer old new before after = AnswersAs (IsUpgraded old) answer old new before after
+abbrev pub UpgradeAnswers : Status → Io → Type 0
+UpgradeAnswers answer io = AnswersAs (IsUpgraded io.had) answer io

@@ -26,7 +26,7 @@ pub fn finish<W: Write + Drop>(status: Status, out: &mut BufWriter<W>) -> Status
     ensures whole { IsAnswer result → writer_buffer out.new ≡ [] }
 
     // No byte is lost, and none is added.
-    ensures kept { Keeps (writer_contents W.contents out.old) (writer_contents W.contents out.new) }
+    ensures contents_kept { Keeps (writer_contents W.contents out.old) (writer_contents W.contents out.new) }
 
     // What could not be handed on is a write fault; nothing else changes the status.
     ensures ended { (flushed : Bool) × (result ≡ status_at_end status flushed) }

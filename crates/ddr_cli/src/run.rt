@@ -49,20 +49,20 @@ pub fn run<S: Source, K: Sink>(
     ensures unwritten { result ≡ Status.Usage → sink.new ≡ sink.old }
 
     // With the word `replay`: the job in the bytes that were read, the report in those that were written.
-    ensures replayed { IsReplay words.now → Answers result (S.left source.old) (S.left source.new) (K.written sink.old) (K.written sink.new) }
+    ensures replayed { IsReplay words.now → Answers result (record { had = S.left source.old; left = S.left source.new; written_before = K.written sink.old; written_after = K.written sink.new }) }
 
     // A job with nothing to refuse is not refused.
     ensures complete { (bytes : List ℕ) (h : Header) (text : List ℕ) (trace : List TraceLine) → IsReplay words.now
         → S.left source.old ≡ Some bytes → IsJobOf (Some bytes) h text trace None → result ≢ Status.Refused }
 
     // With the word `audit`: the verdict on the report in the bytes that were read.
-    ensures audited { IsAudit words.now → AuditAnswers result (S.left source.old) (S.left source.new) (K.written sink.old) (K.written sink.new) }
+    ensures audited { IsAudit words.now → AuditAnswers result (record { had = S.left source.old; left = S.left source.new; written_before = K.written sink.old; written_after = K.written sink.new }) }
 
     // With the word `show`: its commands in readable form.
-    ensures shown { IsShow words.now → ShowAnswers result (S.left source.old) (S.left source.new) (K.written sink.old) (K.written sink.new) }
+    ensures shown { IsShow words.now → ShowAnswers result (record { had = S.left source.old; left = S.left source.new; written_before = K.written sink.old; written_after = K.written sink.new }) }
 
     // With the word `upgrade`: the report in version 2.
-    ensures upgraded { IsUpgrade words.now → UpgradeAnswers result (S.left source.old) (S.left source.new) (K.written sink.old) (K.written sink.new) }
+    ensures upgraded { IsUpgrade words.now → UpgradeAnswers result (record { had = S.left source.old; left = S.left source.new; written_before = K.written sink.old; written_after = K.written sink.new }) }
 
     // With the word `gen`: the made job.
     ensures made { (seed requests : ℕ) → IsGen words.now seed requests → Writes result (K.written sink.old) (K.written sink.new) (made seed requests) }
@@ -74,17 +74,17 @@ pub fn run<S: Source, K: Sink>(
     ensures made_unread { Makes words.now → source.new ≡ source.old }
 
     // With the word `merge` and a cap: the merged job of four ports.
-    ensures merged { (cap : ℕ) → IsMerge words.now cap → MergeAnswers cap result (S.left source.old) (S.left source.new) (K.written sink.old) (K.written sink.new) }
+    ensures merged { (cap : ℕ) → IsMerge words.now cap → MergeAnswers cap result (record { had = S.left source.old; left = S.left source.new; written_before = K.written sink.old; written_after = K.written sink.new }) }
 
     // With the word `ports` and a cap: the report of that job, with the headline's promise and that of the cap.
-    ensures ported { (cap : ℕ) → IsPorts words.now cap → PortsAnswers cap result (S.left source.old) (S.left source.new) (K.written sink.old) (K.written sink.new) }
+    ensures ported { (cap : ℕ) → IsPorts words.now cap → PortsAnswers cap result (record { had = S.left source.old; left = S.left source.new; written_before = K.written sink.old; written_after = K.written sink.new }) }
 
     // With either: each port's rests stand in their order, each once, and the ports take turns.
     ensures fair { (h : Header) (bytes text rest : List ℕ) → AskForPorts words.now → S.left source.old ≡ Some bytes → opening_of bytes ≡ Accepts h text rest
         → IsFair (input_of rest).lines }
 
     // With the word `exec`: what a device makes of the script in the bytes that were read.
-    ensures executed { IsExec words.now → AnswersAs (IsExecuted (S.left source.old)) result (S.left source.old) (S.left source.new) (K.written sink.old) (K.written sink.new) }
+    ensures executed { IsExec words.now → AnswersAs (IsExecuted (S.left source.old)) result (record { had = S.left source.old; left = S.left source.new; written_before = K.written sink.old; written_after = K.written sink.new }) }
 
     // Whoever made the script: its lines are judged in their order by the rules alone, its reads are those of plain memory where
     // few bits were turned, and no row has more activations than the bound.
@@ -100,7 +100,7 @@ pub fn run<S: Source, K: Sink>(
         → opening_of bytes ≡ Accepts h text rest → IsFlawless four_devices h rest clock → IsUnblamed result }
 
     // With the word `spare` and a dead device: what five devices make of the script, of which that one is not read.
-    ensures spared { (dead : ℕ) → IsSpare words.now dead → AnswersAs (IsSpared dead (S.left source.old)) result (S.left source.old) (S.left source.new) (K.written sink.old) (K.written sink.new) }
+    ensures spared { (dead : ℕ) → IsSpare words.now dead → AnswersAs (IsSpared dead (S.left source.old)) result (record { had = S.left source.old; left = S.left source.new; written_before = K.written sink.old; written_after = K.written sink.new }) }
 
     // Whoever made the script: its lines are judged in their order by the rules alone, and its reads are those of plain memory
     // where few bits were turned in the live devices, whatever was turned in the dead one.

@@ -12,7 +12,7 @@ use std::alloc::Global;
 /// ends it with an X line.
 #[inline(never)]
 pub fn show<S: Source, K: Sink>(alloc: Global, source: &mut S, sink: &mut K) -> Status
-    ensures answer { ShowAnswers result (S.left source.old) (S.left source.new) (K.written sink.old) (K.written sink.new) }
+    ensures answer { ShowAnswers result (record { had = S.left source.old; left = S.left source.new; written_before = K.written sink.old; written_after = K.written sink.new }) }
     ensures usage { result ≢ Status.Usage }
     ensures broken { result ≢ Status.Broken }
 

@@ -158,50 +158,52 @@ fn headers_are_refused(rt: HostRuntime) -> Result<(), Fail> {
     Ok(())
 }
 
+// Words that are none of the listed forms.
+const OTHER_WORDS: [&[&str]; 38] = [
+    &[],
+    &["replay", "now"],
+    &["Replay"],
+    &["audit", "show"],
+    &["Show"],
+    &["--help"],
+    &["gen"],
+    &["gen", "5"],
+    &["gen", "01", "5"],
+    &["gen", "1", "05"],
+    &["gen", "18446744073709551616", "5"],
+    &["gen", "1", "1048577"],
+    &["gen", "1", "5", "5"],
+    &["gen", "run", "5"],
+    &["gen", "run", "1", "05"],
+    &["gen", "run", "1", "5", "5"],
+    &["run", "1", "5"],
+    &["Gen", "1", "5"],
+    &["ports"],
+    &["merge"],
+    &["ports", "0"],
+    &["merge", "33"],
+    &["ports", "02"],
+    &["merge", "+2"],
+    &["ports", "2", "2"],
+    &["merge", "4294967298"],
+    &["2", "merge"],
+    &["exec", "2"],
+    &["Exec"],
+    &["exec", "exec"],
+    &["spare"],
+    &["spare", "5"],
+    &["spare", "01"],
+    &["spare", "+1"],
+    &["spare", "1", "1"],
+    &["spare", "256"],
+    &["1", "spare"],
+    &["Spare", "1"],
+];
+
 #[test]
 fn other_words(rt: HostRuntime) -> Result<(), Fail> {
     let alloc = rt.alloc();
-    let rows: [&[&str]; 38] = [
-        &[],
-        &["replay", "now"],
-        &["Replay"],
-        &["audit", "show"],
-        &["Show"],
-        &["--help"],
-        &["gen"],
-        &["gen", "5"],
-        &["gen", "01", "5"],
-        &["gen", "1", "05"],
-        &["gen", "18446744073709551616", "5"],
-        &["gen", "1", "1048577"],
-        &["gen", "1", "5", "5"],
-        &["gen", "run", "5"],
-        &["gen", "run", "1", "05"],
-        &["gen", "run", "1", "5", "5"],
-        &["run", "1", "5"],
-        &["Gen", "1", "5"],
-        &["ports"],
-        &["merge"],
-        &["ports", "0"],
-        &["merge", "33"],
-        &["ports", "02"],
-        &["merge", "+2"],
-        &["ports", "2", "2"],
-        &["merge", "4294967298"],
-        &["2", "merge"],
-        &["exec", "2"],
-        &["Exec"],
-        &["exec", "exec"],
-        &["spare"],
-        &["spare", "5"],
-        &["spare", "01"],
-        &["spare", "+1"],
-        &["spare", "1", "1"],
-        &["spare", "256"],
-        &["1", "spare"],
-        &["Spare", "1"],
-    ];
-    for row in rows {
+    for row in OTHER_WORDS {
         let words = words_of(alloc, row)?;
         let mut source = PlainSource::new(b"left".to_vec(alloc)?);
         let mut sink = PlainSink::new(alloc);

@@ -17,7 +17,7 @@ use std::alloc::Global;
 /// not well formed ends it with an X line.
 #[inline(never)]
 pub fn upgrade<S: Source, K: Sink>(alloc: Global, source: &mut S, sink: &mut K) -> Status
-    ensures answer { UpgradeAnswers result (S.left source.old) (S.left source.new) (K.written sink.old) (K.written sink.new) }
+    ensures answer { UpgradeAnswers result (record { had = S.left source.old; left = S.left source.new; written_before = K.written sink.old; written_after = K.written sink.new }) }
     ensures usage { result ≢ Status.Usage }
     ensures broken { result ≢ Status.Broken }
 
@@ -47,9 +47,9 @@ pub fn upgrade<S: Source, K: Sink>(alloc: Global, source: &mut S, sink: &mut K) 
 fn put_heading<K: Sink>(text: &HeaderText, separator: &HeaderText, sink: &mut K) -> Result<(), Stop>
     requires { (line : List ℕ) × (separator.now ≡ with_feed line) }
     ensures whole { (line : List ℕ) → separator.now ≡ with_feed line → OnOk result (Appends (K.written sink.old) (K.written sink.new) (text.now ++ with_feed (newer line))) }
-    ensures cut { (line : List ℕ) → separator.now ≡ with_feed line → IfErr result (λ stop. AppendsPrefix (K.written sink.old) (K.written sink.new) (text.now ++ with_feed (newer line))) }
+    ensures writes_a_prefix { (line : List ℕ) → separator.now ≡ with_feed line → IfErr result (λ stop. AppendsPrefix (K.written sink.old) (K.written sink.new) (text.now ++ with_feed (newer line))) }
     ensures cause { IfErr result (WriteCause (K.faults sink.old) (K.faults sink.new)) }
-    ensures kept { OnOk result (K.faults sink.new ≡ K.faults sink.old) }
+    ensures faults_kept { OnOk result (K.faults sink.new ≡ K.faults sink.old) }
 {
     put(text.bytes(), sink)?;
     put(newer(separator.bytes()), sink)

@@ -31,10 +31,10 @@ pub(crate) fn write_behind<S: Source, K: Sink>(
     sink: &mut K,
 ) -> Status
     requires { lines.reader.last ≡ Line.Text }
-    ensures written { AnswersAs (IsOutcomeBehind (written_as wording) lines (next_bytes lines.reader.held (S.left source.old))) result (S.left source.old) (S.left source.new) (K.written sink.old) (K.written sink.new) }
+    ensures written { AnswersAs (IsOutcomeBehind (written_as wording) lines (next_bytes lines.reader.held (S.left source.old))) result (record { had = S.left source.old; left = S.left source.new; written_before = K.written sink.old; written_after = K.written sink.new }) }
     ensures read { result ≡ Status.ReadFault → Rose (S.faults source.old) (S.faults source.new) }
     ensures write { result ≡ Status.WriteFault → Rose (K.faults sink.old) (K.faults sink.new) }
-    ensures later { S.faults source.old ≤ S.faults source.new }
+    ensures faults_never_fall { S.faults source.old ≤ S.faults source.new }
     ensures reads_kept { result ≢ Status.ReadFault → S.faults source.new ≡ S.faults source.old }
     ensures writes_kept { result ≢ Status.WriteFault → K.faults sink.new ≡ K.faults sink.old }
     ensures broken { result ≢ Status.Broken }
@@ -55,9 +55,9 @@ pub(crate) fn write_behind<S: Source, K: Sink>(
 // Writes a line again.
 fn put_worded<K: Sink>(line: &ReportLine, wording: Wording, sink: &mut K) -> Result<(), Stop>
     ensures whole { OnOk result (Appends (K.written sink.old) (K.written sink.new) (written_as wording line.now)) }
-    ensures cut { IfErr result (λ stop. AppendsPrefix (K.written sink.old) (K.written sink.new) (written_as wording line.now)) }
+    ensures writes_a_prefix { IfErr result (λ stop. AppendsPrefix (K.written sink.old) (K.written sink.new) (written_as wording line.now)) }
     ensures cause { IfErr result (WriteCause (K.faults sink.old) (K.faults sink.new)) }
-    ensures kept { OnOk result (K.faults sink.new ≡ K.faults sink.old) }
+    ensures faults_kept { OnOk result (K.faults sink.new ≡ K.faults sink.old) }
 {
     let mut text = ArrayVec::new();
     word(line, wording, &mut text);

@@ -36,7 +36,7 @@ impl Calls {
     pub(crate) fn next(&mut self) -> bool
         ensures answer { result ≡ next_fails self.old }
         ensures state { self.new ≡ one_more_call self.old }
-        ensures later { self.old.faults ≤ self.new.faults }
+        ensures faults_never_fall { self.old.faults ≤ self.new.faults }
     {
         self.made = self.made.saturating_add(1);
         let fails = self.fails.contains(&self.made);

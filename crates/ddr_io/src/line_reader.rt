@@ -112,10 +112,10 @@ impl LineReader {
         ensures at_stop { self.old.last ≡ Line.Text → StopsAt (S.left source.old) self.new.held (S.left source.new) result }
 
         // A fault is told where the source counted one.
-        ensures later { S.faults source.old ≤ S.faults source.new }
+        ensures faults_never_fall { S.faults source.old ≤ S.faults source.new }
         ensures failed { self.old.last ≡ Line.Text → result ≡ Line.Failed →
             Rose (S.faults source.old) (S.faults source.new) }
-        ensures kept { result ≢ Line.Failed → S.faults source.new ≡ S.faults source.old }
+        ensures faults_kept { result ≢ Line.Failed → S.faults source.new ≡ S.faults source.old }
     {
         if self.last != Line::Text {
             return self.stop(self.last);
@@ -193,9 +193,9 @@ impl LineReader {
     fn fill<S: Source>(&mut self, source: &mut S) -> Got
         requires { length self.old.held < MAX_LINE }
         ensures bytes { Fills self.old self.new (S.left source.old) (S.left source.new) result }
-        ensures later { S.faults source.old ≤ S.faults source.new }
+        ensures faults_never_fall { S.faults source.old ≤ S.faults source.new }
         ensures failed { result ≡ Got.Failed → Rose (S.faults source.old) (S.faults source.new) }
-        ensures kept { result ≢ Got.Failed → S.faults source.new ≡ S.faults source.old }
+        ensures faults_kept { result ≢ Got.Failed → S.faults source.new ≡ S.faults source.old }
     {
         self.line_start = 0;
         self.line_end = 0;

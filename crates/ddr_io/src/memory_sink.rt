@@ -67,9 +67,9 @@ impl Sink for MemorySink {
         // What holds of every sink.
         ensures bound { TakesAtMost result piece.now }
         ensures bytes { Takes (Some self.old.written) (Some self.new.written) result piece.now }
-        ensures later { self.old.calls.faults ≤ self.new.calls.faults }
+        ensures faults_never_fall { self.old.calls.faults ≤ self.new.calls.faults }
         ensures failed { result ≡ Put.Failed → Rose self.old.calls.faults self.new.calls.faults }
-        ensures kept { result ≢ Put.Failed → self.new.calls.faults ≡ self.old.calls.faults }
+        ensures faults_kept { result ≢ Put.Failed → self.new.calls.faults ≡ self.old.calls.faults }
     {
         if self.calls.next() {
             return Put::Failed;

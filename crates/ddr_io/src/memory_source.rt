@@ -69,9 +69,9 @@ impl Source for MemorySource {
         // What holds of every source.
         ensures bound { GivesAtMost result buf.new }
         ensures bytes { Gives (Some self.old.left) (Some self.new.left) result buf.new }
-        ensures later { self.old.calls.faults ≤ self.new.calls.faults }
+        ensures faults_never_fall { self.old.calls.faults ≤ self.new.calls.faults }
         ensures failed { result ≡ Got.Failed → Rose self.old.calls.faults self.new.calls.faults }
-        ensures kept { result ≢ Got.Failed → self.new.calls.faults ≡ self.old.calls.faults }
+        ensures faults_kept { result ≢ Got.Failed → self.new.calls.faults ≡ self.old.calls.faults }
     {
         if self.calls.next() {
             return Got::Failed;

@@ -48,10 +48,10 @@ impl<W: Write> Sink for RealSink<W> {
         ensures bound { TakesAtMost result piece.now }
         ensures bytes { Takes (W.contents (writer_of self.old)) (W.contents (writer_of self.new))
             result piece.now }
-        ensures later { write_faults self.old ≤ write_faults self.new }
+        ensures faults_never_fall { write_faults self.old ≤ write_faults self.new }
         ensures failed { result ≡ Put.Failed →
             Rose (write_faults self.old) (write_faults self.new) }
-        ensures kept { result ≢ Put.Failed → write_faults self.new ≡ write_faults self.old }
+        ensures faults_kept { result ≢ Put.Failed → write_faults self.new ≡ write_faults self.old }
     {
         match write_uninterrupted(&mut self.writer, piece) {
             Ok(0) | Err(_) => {

@@ -47,10 +47,10 @@ impl<R: Read> Source for RealSource<R> {
         ensures bound { GivesAtMost result buf.new }
         ensures bytes { Gives (R.remaining (reader_of self.old)) (R.remaining (reader_of self.new))
             result buf.new }
-        ensures later { read_faults self.old ≤ read_faults self.new }
+        ensures faults_never_fall { read_faults self.old ≤ read_faults self.new }
         ensures failed { result ≡ Got.Failed →
             Rose (read_faults self.old) (read_faults self.new) }
-        ensures kept { result ≢ Got.Failed → read_faults self.new ≡ read_faults self.old }
+        ensures faults_kept { result ≢ Got.Failed → read_faults self.new ≡ read_faults self.old }
     {
         match read_uninterrupted(&mut self.reader, buf) {
             Ok(0) => Got::End,

@@ -27,9 +27,9 @@ pub trait Sink {
         requires { 0 < length piece.now }
         ensures bound { TakesAtMost result piece.now }
         ensures bytes { Takes (written self.old) (written self.new) result piece.now }
-        ensures later { faults self.old ≤ faults self.new }
+        ensures faults_never_fall { faults self.old ≤ faults self.new }
         ensures failed { result ≡ Put.Failed → Rose (faults self.old) (faults self.new) }
-        ensures kept { result ≢ Put.Failed → faults self.new ≡ faults self.old };
+        ensures faults_kept { result ≢ Put.Failed → faults self.new ≡ faults self.old };
 }
 
 /// Writes the whole piece, by as many writes as that takes. After any answer but `Took`, some
@@ -37,9 +37,9 @@ pub trait Sink {
 pub fn put_all<K: Sink>(sink: &mut K, piece: &[u8]) -> Put
     requires { 0 < length piece.now }
     ensures bytes { TakesWhole (K.written sink.old) (K.written sink.new) result piece.now }
-    ensures later { K.faults sink.old ≤ K.faults sink.new }
+    ensures faults_never_fall { K.faults sink.old ≤ K.faults sink.new }
     ensures failed { result ≡ Put.Failed → Rose (K.faults sink.old) (K.faults sink.new) }
-    ensures kept { result ≢ Put.Failed → K.faults sink.new ≡ K.faults sink.old }
+    ensures faults_kept { result ≢ Put.Failed → K.faults sink.new ≡ K.faults sink.old }
 {
     let mut rest = piece;
     while !rest.is_empty() {

@@ -27,7 +27,7 @@ pub trait Source {
         requires { 0 < length buf.old }
         ensures bound { GivesAtMost result buf.new }
         ensures bytes { Gives (left self.old) (left self.new) result buf.new }
-        ensures later { faults self.old ≤ faults self.new }
+        ensures faults_never_fall { faults self.old ≤ faults self.new }
         ensures failed { result ≡ Got.Failed → Rose (faults self.old) (faults self.new) }
-        ensures kept { result ≢ Got.Failed → faults self.new ≡ faults self.old };
+        ensures faults_kept { result ≢ Got.Failed → faults self.new ≡ faults self.old };
 }

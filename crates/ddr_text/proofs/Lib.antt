@@ -1,15 +1,19 @@
+mod BytePairs
 mod Cuts
 mod Decoded
+mod DigitPairs
+mod EachByte
+mod FirstSpace
 mod HexBytes
 pub mod LineParts
 pub mod LinesInFront
-mod LowerHex
+pub mod LowerHex
 mod Names
-mod Numerals
+pub mod Numerals
 pub mod Parts
 pub mod ReportLaws
 pub mod ReportReading
-mod Steps
+pub mod Steps
 pub mod TraceLaws
 mod WordLaws
 mod Values

@@ -12,11 +12,11 @@ use Rattle.ddr_text.specs.ReportGrammar.{is_lower_digit, lower_bytes_of}
 use Rattle.ddr_text.proofs.Steps.{or-hex-Ok}
 
 -- a test of each number below a bound, which computes
-abbrev each-below : (ℕ → Bool) → ℕ → Bool
+abbrev pub each-below : (ℕ → Bool) → ℕ → Bool
 each-below test zero = true
 each-below test (suc n) = test n && each-below test n
 
-each-at : (test : ℕ → Bool) (n k : ℕ) → each-below test n ≡ true → k < n → test k ≡ true
+pub each-at : (test : ℕ → Bool) (n k : ℕ) → each-below test n ≡ true → k < n → test k ≡ true
 each-at test zero k h l = absurd (omega arith)
 each-at test (suc n) k h l =
     let parts = and_parts (test n) (each-below test n) h in

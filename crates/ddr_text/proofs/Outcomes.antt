@@ -10,6 +10,7 @@ use Rattle.ddr_io.specs.declared.line_reader.Line.TheVariants.{Text}
 use Rattle.ddr_io.specs.declared.status.Status.{Status}
 use Rattle.ddr_io.specs.declared.status.Status.TheVariants as status
 use Rattle.speed_bin.specs.declared.header.Header.{Header}
+use Rattle.ddr_text.specs.Io.{io}
 use Rattle.ddr_text.specs.Opening.{IsOpening}
 use Rattle.ddr_text.specs.Outcome.{AnswersAs, BeginsAs, Outcome, ReadsAll, RefusesLine, refused_opening}
 use Rattle.ddr_text.specs.Spelling.{spelled}
@@ -67,7 +68,7 @@ refuses-no_read answer number reason before after refuses e = subst (λ (s : Sta
 
 -- these bytes were written in front of what is answered
 pub answers-behind : (Is Other : Outcome → Type 0) (front : List ℕ) (answer : Status) (old mid new before middle after : Option (List ℕ)) → Appends before middle front
-    → ((s : Outcome) → Is s → Other (record { text = front ++ s.text; status = s.status })) → (ReadsAll mid new → ReadsAll old new) → AnswersAs Is answer mid new middle after → AnswersAs Other answer old new before after
+    → ((s : Outcome) → Is s → Other (record { text = front ++ s.text; status = s.status })) → (ReadsAll mid new → ReadsAll old new) → AnswersAs Is answer (io mid new middle after) → AnswersAs Other answer (io old new before after)
 answers-behind Is Other front status.Ok old mid new before middle after h same all ((s, is, answered, wrote), reads) =
     ((record { text = front ++ s.text; status = s.status }, same s is, answered, Appends-trans before middle after front s.text h wrote), all reads)
 answers-behind Is Other front status.Refused old mid new before middle after h same all (s, is, answered, wrote) =
@@ -80,13 +81,13 @@ answers-behind Is Other front status.OutOfMemory old mid new before middle after
 answers-behind Is Other front status.Usage old mid new before middle after h same all answers = absurd answers
 
 -- a write that stopped within what is answered
-pub answers-cut : (Is : Outcome → Type 0) (s : Outcome) (stop : Stop) (faults later : ℕ) (old new before after : Option (List ℕ)) → Is s → AppendsPrefix before after s.text → WriteCause faults later stop → AnswersAs Is (status_of stop) old new before after
+pub answers-cut : (Is : Outcome → Type 0) (s : Outcome) (stop : Stop) (faults later : ℕ) (old new before after : Option (List ℕ)) → Is s → AppendsPrefix before after s.text → WriteCause faults later stop → AnswersAs Is (status_of stop) (io old new before after)
 answers-cut Is s ReadFault faults later old new before after is cut cause = absurd cause
 answers-cut Is s WriteFault faults later old new before after is cut cause = (s, is, cut)
 answers-cut Is s OutOfMemory faults later old new before after is cut cause = (s, is, cut)
 
 -- the opening was refused
-pub answers-refused : (Is : Outcome → Type 0) (answer : Status) (reason : ℕ) (old new before after : Option (List ℕ)) → Is (refused_opening reason) → RefusesLine answer 0 reason before after → AnswersAs Is answer old new before after
+pub answers-refused : (Is : Outcome → Type 0) (answer : Status) (reason : ℕ) (old new before after : Option (List ℕ)) → Is (refused_opening reason) → RefusesLine answer 0 reason before after → AnswersAs Is answer (io old new before after)
 answers-refused Is status.Refused reason old new before after is refuses = (refused_opening reason, is, refl, refuses)
 answers-refused Is status.WriteFault reason old new before after is refuses = (refused_opening reason, is, refuses)
 answers-refused Is status.OutOfMemory reason old new before after is refuses = (refused_opening reason, is, refuses)

@@ -16,5 +16,7 @@ pub mod Opening
 pub mod Front
 pub mod Apart
 pub mod Stop
+pub mod Io
 pub mod Outcome
 pub mod Writing
+pub mod ByteDigits

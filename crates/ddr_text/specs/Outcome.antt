@@ -5,6 +5,7 @@ use Rattle.std.specs.Io.KnownBytes.{Appends}
 use Rattle.ddr_io.specs.Sink.{AppendsPrefix}
 use Rattle.ddr_io.specs.declared.status.Status.{Status}
 use Rattle.ddr_io.specs.declared.status.Status.TheVariants as status
+use Rattle.ddr_text.specs.Io.{Io}
 use Rattle.ddr_text.specs.ReportParts.{Refusal}
 use Rattle.ddr_text.specs.Spelling.{spelled}
 use Rattle.ddr_text.specs.declared.lines.ReportLine.TheVariants.{Refused}
@@ -57,11 +58,11 @@ BeginsAs Is before after = (it : Outcome) × Is it × AppendsPrefix before after
 
 -- What is answered where such is the outcome. With Ok the source was read to its end; with a fault, or where memory was
 -- wanting, a prefix was written.
-abbrev pub AnswersAs : (Outcome → Type 0) → Status → Option (List ℕ) → Option (List ℕ) → Option (List ℕ) → Option (List ℕ) → Type 0
-AnswersAs Is status.Ok old new before after = EndsAs Is status.Ok before after × ReadsAll old new
-AnswersAs Is status.Refused old new before after = EndsAs Is status.Refused before after
-AnswersAs Is status.Broken old new before after = EndsAs Is status.Broken before after
-AnswersAs Is status.ReadFault old new before after = BeginsAs Is before after
-AnswersAs Is status.WriteFault old new before after = BeginsAs Is before after
-AnswersAs Is status.OutOfMemory old new before after = BeginsAs Is before after
-AnswersAs Is status.Usage old new before after = ⊥
+abbrev pub AnswersAs : (Outcome → Type 0) → Status → Io → Type 0
+AnswersAs Is status.Ok io = EndsAs Is status.Ok io.written_before io.written_after × ReadsAll io.had io.left
+AnswersAs Is status.Refused io = EndsAs Is status.Refused io.written_before io.written_after
+AnswersAs Is status.Broken io = EndsAs Is status.Broken io.written_before io.written_after
+AnswersAs Is status.ReadFault io = BeginsAs Is io.written_before io.written_after
+AnswersAs Is status.WriteFault io = BeginsAs Is io.written_before io.written_after
+AnswersAs Is status.OutOfMemory io = BeginsAs Is io.written_before io.written_after
+AnswersAs Is status.Usage io = ⊥

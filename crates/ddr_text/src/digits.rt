@@ -1,8 +1,9 @@
 //! The words, states and names of a report line's fields.
-ghost use Rattle.std.specs.Prelude.{◌≡◌, option_copied};
+ghost use Rattle.std.specs.Prelude.{◌≡◌, IfSome, Ok, option_copied};
 ghost use Rattle.std.specs.List.{list_all};
 ghost use Rattle.ddr_text.specs.ReportGrammar.{is_lower_digit, lower_bytes_of, word_of, words_in, state_of, stat_of, command_of, has_place, in_place};
 
+use crate::byte_digits::lower_bytes_at_once;
 use crate::{LineFault, StatName};
 use command_words::{Command, Geometry, Words, decode};
 use hex::FromHex;
@@ -12,8 +13,24 @@ use ondie_ecc::ReadState;
 ///
 /// # Errors
 /// `LineFault::Hex` for every other field.
-#[tactic(auto, unfolding(crate::specs::ReportGrammar::lower_bytes_of))]
 pub fn lower_bytes_of(field: &[u8]) -> Result<[u8; 64], LineFault>
+    ensures { result ≡ lower_bytes_of 64 field.now }
+{
+    match at_once(field) {
+        Some(bytes) => Ok(bytes),
+        None => judged_lower_bytes_of(field),
+    }
+}
+
+fn at_once(field: &[u8]) -> Option<[u8; 64]>
+    ensures { IfSome result (λ bytes. lower_bytes_of 64 field.now ≡ Ok bytes) }
+{
+    lower_bytes_at_once(field.try_into().ok()?)
+}
+
+/// The same digit by digit, up to the first that is none.
+#[tactic(auto, unfolding(crate::specs::ReportGrammar::lower_bytes_of))]
+pub(crate) fn judged_lower_bytes_of(field: &[u8]) -> Result<[u8; 64], LineFault>
     ensures { result ≡ lower_bytes_of 64 field.now }
 {
     if all_lower(field) {

@@ -1,13 +1,18 @@
 //! The fields of a line, which stand between single spaces, and what a field spells.
-ghost use Rattle.std.specs.Prelude.{◌≡◌, ◌<◌, ◌^◌, ◌∷◌, length, position, IfSome, option_copied};
+ghost use Rattle.std.specs.Prelude.{◌≡◌, ◌<◌, ◌^◌, ◌∷◌, length, position, IfSome, Ok, option_copied};
 ghost use Rattle.command_words.specs.Geometry.{lines_of};
 ghost use Rattle.ddr_text.specs.Grammar.{is_space, fields_of, one_field, two_fields, three_fields, four_fields, number_of, below, bytes_of};
 ghost use Rattle.ddr_text.specs.ReportGrammar.{optional_field, command_fields};
 ghost use Rattle.ddr_text.specs.Fields.{seen_four, seen_optional, seen_command, fields_after, value_of, with_digit, seen_one, seen_two, seen_three};
 
 use crate::LineFault;
+use crate::byte_digits::bytes_at_once;
 use command_words::{Geometry, LineAddr};
 use hex::FromHex;
+use memchr::memchr;
+
+// From so many bytes on a text is searched many bytes at a time.
+const FAR: usize = 64;
 
 /// The first field of a text, and what follows its space, where there is one.
 pub fn cut(text: &[u8]) -> (&[u8], Option<&[u8]>)
@@ -24,7 +29,19 @@ fn first_space(text: &[u8]) -> Option<usize>
     ensures first { result ≡ position is_space text.now }
     ensures within { IfSome result (λ at. at < length text.now) }
 {
-    text.iter().position(|byte| *byte == b' ')
+    if text.len() < FAR {
+        text.iter().position(|byte| *byte == b' ')
+    } else {
+        far_space(text)
+    }
+}
+
+// The same, many bytes at a time: behind 64 bytes in digits it stands far off.
+fn far_space(text: &[u8]) -> Option<usize>
+    ensures first { result ≡ position is_space text.now }
+    ensures within { IfSome result (λ at. at < length text.now) }
+{
+    memchr(b' ', text)
 }
 
 /// The one field that is left.
@@ -179,8 +196,24 @@ pub fn below(limit: u8, number: u64) -> Result<u8, LineFault>
 }
 
 /// The 64 bytes that a field spells.
-#[tactic(auto, unfolding(crate::specs::Grammar::bytes_of))]
 pub(crate) fn bytes_of(field: &[u8]) -> Result<[u8; 64], LineFault>
+    ensures { result ≡ bytes_of field.now }
+{
+    match at_once(field) {
+        Some(bytes) => Ok(bytes),
+        None => judged_bytes_of(field),
+    }
+}
+
+fn at_once(field: &[u8]) -> Option<[u8; 64]>
+    ensures { IfSome result (λ bytes. bytes_of field.now ≡ Ok bytes) }
+{
+    bytes_at_once(field.try_into().ok()?)
+}
+
+/// The same digit by digit, up to the first that is none.
+#[tactic(auto, unfolding(crate::specs::Grammar::bytes_of))]
+pub(crate) fn judged_bytes_of(field: &[u8]) -> Result<[u8; 64], LineFault>
     ensures { result ≡ bytes_of field.now }
 {
     <[u8; 64] as FromHex>::from_hex(field).map_err(|_| LineFault::Hex)

@@ -1,6 +1,9 @@
 //! The lines of traces and reports, and the opening of a job; reading a report line by line, and writing lines into a sink.
 #![tactic(auto)]
 
+mod byte_digits;
+#[cfg(test)]
+mod byte_digits_tests;
 pub mod digits;
 pub mod fields;
 mod header_text;

@@ -70,8 +70,8 @@ pub fn open_job<S: Source>(
     // Only a fault of the source is told as one, and only where the bytes that were taken open no job.
     ensures failed { result ≡ Ok Opening.Failed → Rose (S.faults source.old) (S.faults source.new) }
     ensures unopened { result ≡ Ok Opening.Failed → IsUnopened (next_bytes reader.old.held (S.left source.old)) (S.left source.new) }
-    ensures later { S.faults source.old ≤ S.faults source.new }
-    ensures kept { result ≢ Ok Opening.Failed → S.faults source.new ≡ S.faults source.old }
+    ensures faults_never_fall { S.faults source.old ≤ S.faults source.new }
+    ensures faults_kept { result ≢ Ok Opening.Failed → S.faults source.new ≡ S.faults source.old }
 
     // Some bytes were taken before memory was wanting.
     ensures taken { OnErr result ((bytes : List ℕ) × Consumes (next_bytes reader.old.held (S.left source.old)) (next_bytes reader.new.held (S.left source.new)) bytes) }
@@ -113,8 +113,8 @@ pub fn open_apart<S: Source>(
     // Only a fault of the source is told as one, and only where the bytes that were taken open no job.
     ensures failed { result ≡ Ok Apart.Failed → Rose (S.faults source.old) (S.faults source.new) }
     ensures unopened { result ≡ Ok Apart.Failed → IsUnopened (next_bytes reader.old.held (S.left source.old)) (S.left source.new) }
-    ensures later { S.faults source.old ≤ S.faults source.new }
-    ensures kept { result ≢ Ok Apart.Failed → S.faults source.new ≡ S.faults source.old }
+    ensures faults_never_fall { S.faults source.old ≤ S.faults source.new }
+    ensures faults_kept { result ≢ Ok Apart.Failed → S.faults source.new ≡ S.faults source.old }
 
     // Some bytes were taken before memory was wanting.
     ensures taken { OnErr result ((bytes : List ℕ) × Consumes (next_bytes reader.old.held (S.left source.old)) (next_bytes reader.new.held (S.left source.new)) bytes) }
@@ -139,8 +139,8 @@ fn read_front<S: Source>(
     ensures going_on { IfOk result (FrontGoesOn reader.new.last) }
     ensures failed { result ≡ Ok Front.Failed → Rose (S.faults source.old) (S.faults source.new) }
     ensures unopened { result ≡ Ok Front.Failed → IsUnopened (next_bytes reader.old.held (S.left source.old)) (S.left source.new) }
-    ensures later { S.faults source.old ≤ S.faults source.new }
-    ensures kept { result ≢ Ok Front.Failed → S.faults source.new ≡ S.faults source.old }
+    ensures faults_never_fall { S.faults source.old ≤ S.faults source.new }
+    ensures faults_kept { result ≢ Ok Front.Failed → S.faults source.new ≡ S.faults source.old }
     ensures taken { OnErr result ((bytes : List ℕ) × Consumes (next_bytes reader.old.held (S.left source.old)) (next_bytes reader.new.held (S.left source.new)) bytes) }
 {
     let mut text = HeaderText::new(alloc);

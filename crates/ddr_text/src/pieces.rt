@@ -4,6 +4,7 @@ ghost use Rattle.std.specs.Fmt.{decimal};
 ghost use Rattle.hex.specs.Hex.{encode_lower};
 ghost use Rattle.ddr_text.specs.Spelling.{spaced};
 
+use crate::byte_digits::digits_of;
 use arrayvec::ArrayVec;
 
 /// Appends a text that has room.
@@ -40,8 +41,6 @@ pub fn put_bytes(bytes: &[u8; 64], out: &mut ArrayVec<u8, 512>)
     ensures digits { out.new.items ≡ out.old.items ++ (codes " " ++ encode_lower bytes.now) }
     ensures long { length out.new.items ≡ length out.old.items + 129 }
 {
-    let mut digits = [0u8; 128];
-    let _ = hex::encode_to_slice(bytes.as_slice(), &mut digits);
     put_text(b" ", out);
-    put_text(&digits, out);
+    put_text(&digits_of(bytes), out);
 }

@@ -95,11 +95,11 @@ impl ReportReader {
         ensures line { (line : AnyReportLine) → result ≡ Next.Line line → StepsOn self.old self.new line }
 
         // A fault is told where the source counted one.
-        ensures later { S.faults source.old ≤ S.faults source.new }
+        ensures faults_never_fall { S.faults source.old ≤ S.faults source.new }
         ensures failed { result ≡ Next.Failed → Rose (S.faults source.old) (S.faults source.new) }
 
         // Any other answer leaves the count: no failed read is tried again.
-        ensures kept { result ≢ Next.Failed → S.faults source.new ≡ S.faults source.old }
+        ensures faults_kept { result ≢ Next.Failed → S.faults source.new ≡ S.faults source.old }
     {
         laws::lines_are_parts();
         match self.reader.next_line(source) {

@@ -7,53 +7,55 @@ use std::test::Fail;
 const SHORT: &str =
     "000000000000000000000000000000000000000000000000000000000000000000000000000000000000000000000000000000000000000000000000000000";
 
+// Lines that spell none, in the order of their faults.
+const FAULTY_LINES: [(&str, LineFault); 38] = [
+    ("", LineFault::Empty),
+    (" ", LineFault::Letter),
+    ("r 1", LineFault::Letter),
+    ("Q 1", LineFault::Letter),
+    ("RR 1", LineFault::Letter),
+    (" R 1", LineFault::Letter),
+    ("C 32 0000 0000", LineFault::Letter),
+    ("R", LineFault::Fields),
+    ("I", LineFault::Fields),
+    ("W 0", LineFault::Fields),
+    ("R  0", LineFault::Fields),
+    ("R 0 ", LineFault::Fields),
+    ("R x 0", LineFault::Fields),
+    ("F 0 0", LineFault::Fields),
+    ("F 0 0 0 0", LineFault::Fields),
+    ("I 1 2", LineFault::Fields),
+    ("W 0 00 00", LineFault::Fields),
+    ("R ", LineFault::Number),
+    ("R x", LineFault::Number),
+    ("R +1", LineFault::Number),
+    ("R -1", LineFault::Number),
+    ("R 01", LineFault::Number),
+    ("R 00", LineFault::Number),
+    ("R 1\r", LineFault::Number),
+    ("R 18446744073709551616", LineFault::Number),
+    (
+        "R 99999999999999999999999999999999999999",
+        LineFault::Number,
+    ),
+    ("F 99999999 0 z", LineFault::Number),
+    ("F x 9 z", LineFault::Number),
+    ("W 01 zz", LineFault::Number),
+    ("R 32768", LineFault::Range),
+    ("R 18446744073709551615", LineFault::Range),
+    ("F 32768 0 0", LineFault::Range),
+    ("F 0 4 0", LineFault::Range),
+    ("F 0 0 136", LineFault::Range),
+    ("I 4294967297", LineFault::Range),
+    ("W 32768 zz", LineFault::Range),
+    ("W 0 ", LineFault::Hex),
+    ("W 0 11", LineFault::Hex),
+];
+
 #[test]
 fn faults_in_their_order(rt: HostRuntime) -> Result<(), Fail> {
     let g = Geometry::with_rows(16);
-    let lines: [(&str, LineFault); 38] = [
-        ("", LineFault::Empty),
-        (" ", LineFault::Letter),
-        ("r 1", LineFault::Letter),
-        ("Q 1", LineFault::Letter),
-        ("RR 1", LineFault::Letter),
-        (" R 1", LineFault::Letter),
-        ("C 32 0000 0000", LineFault::Letter),
-        ("R", LineFault::Fields),
-        ("I", LineFault::Fields),
-        ("W 0", LineFault::Fields),
-        ("R  0", LineFault::Fields),
-        ("R 0 ", LineFault::Fields),
-        ("R x 0", LineFault::Fields),
-        ("F 0 0", LineFault::Fields),
-        ("F 0 0 0 0", LineFault::Fields),
-        ("I 1 2", LineFault::Fields),
-        ("W 0 00 00", LineFault::Fields),
-        ("R ", LineFault::Number),
-        ("R x", LineFault::Number),
-        ("R +1", LineFault::Number),
-        ("R -1", LineFault::Number),
-        ("R 01", LineFault::Number),
-        ("R 00", LineFault::Number),
-        ("R 1\r", LineFault::Number),
-        ("R 18446744073709551616", LineFault::Number),
-        (
-            "R 99999999999999999999999999999999999999",
-            LineFault::Number,
-        ),
-        ("F 99999999 0 z", LineFault::Number),
-        ("F x 9 z", LineFault::Number),
-        ("W 01 zz", LineFault::Number),
-        ("R 32768", LineFault::Range),
-        ("R 18446744073709551615", LineFault::Range),
-        ("F 32768 0 0", LineFault::Range),
-        ("F 0 4 0", LineFault::Range),
-        ("F 0 0 136", LineFault::Range),
-        ("I 4294967297", LineFault::Range),
-        ("W 32768 zz", LineFault::Range),
-        ("W 0 ", LineFault::Hex),
-        ("W 0 11", LineFault::Hex),
-    ];
-    for (text, fault) in lines {
+    for (text, fault) in FAULTY_LINES {
         assert_eq!(rt; read_trace_line(text.as_bytes(), g), Err(fault), "{text}");
     }
     Ok(())

@@ -15,9 +15,9 @@ use ddr_io::{Put, Sink, Status, put_all};
 /// Writes the whole piece. At `Err` a prefix of it was written.
 pub fn put<K: Sink>(piece: &[u8], sink: &mut K) -> Result<(), Stop>
     ensures whole { OnOk result (Appends (K.written sink.old) (K.written sink.new) piece.now) }
-    ensures cut { IfErr result (λ stop. AppendsPrefix (K.written sink.old) (K.written sink.new) piece.now) }
-    ensures later { K.faults sink.old ≤ K.faults sink.new }
-    ensures kept { OnOk result (K.faults sink.new ≡ K.faults sink.old) }
+    ensures writes_a_prefix { IfErr result (λ stop. AppendsPrefix (K.written sink.old) (K.written sink.new) piece.now) }
+    ensures faults_never_fall { K.faults sink.old ≤ K.faults sink.new }
+    ensures faults_kept { OnOk result (K.faults sink.new ≡ K.faults sink.old) }
     ensures cause { IfErr result (WriteCause (K.faults sink.old) (K.faults sink.new)) }
 {
     if piece.is_empty() {
@@ -33,9 +33,9 @@ pub fn put<K: Sink>(piece: &[u8], sink: &mut K) -> Result<(), Stop>
 /// Writes a line of a report.
 pub fn put_line<K: Sink>(line: &ReportLine, sink: &mut K) -> Result<(), Stop>
     ensures whole { OnOk result (Appends (K.written sink.old) (K.written sink.new) (spelled line.now)) }
-    ensures cut { IfErr result (λ stop. AppendsPrefix (K.written sink.old) (K.written sink.new) (spelled line.now)) }
-    ensures later { K.faults sink.old ≤ K.faults sink.new }
-    ensures kept { OnOk result (K.faults sink.new ≡ K.faults sink.old) }
+    ensures writes_a_prefix { IfErr result (λ stop. AppendsPrefix (K.written sink.old) (K.written sink.new) (spelled line.now)) }
+    ensures faults_never_fall { K.faults sink.old ≤ K.faults sink.new }
+    ensures faults_kept { OnOk result (K.faults sink.new ≡ K.faults sink.old) }
     ensures cause { IfErr result (WriteCause (K.faults sink.old) (K.faults sink.new)) }
 {
     let mut text = ArrayVec::new();
@@ -46,9 +46,9 @@ pub fn put_line<K: Sink>(line: &ReportLine, sink: &mut K) -> Result<(), Stop>
 /// Writes these lines of a report.
 pub fn put_lines<K: Sink>(lines: &[ReportLine], sink: &mut K) -> Result<(), Stop>
     ensures whole { OnOk result (Appends (K.written sink.old) (K.written sink.new) (flat_map spelled lines.now)) }
-    ensures cut { IfErr result (λ stop. AppendsPrefix (K.written sink.old) (K.written sink.new) (flat_map spelled lines.now)) }
-    ensures later { K.faults sink.old ≤ K.faults sink.new }
-    ensures kept { OnOk result (K.faults sink.new ≡ K.faults sink.old) }
+    ensures writes_a_prefix { IfErr result (λ stop. AppendsPrefix (K.written sink.old) (K.written sink.new) (flat_map spelled lines.now)) }
+    ensures faults_never_fall { K.faults sink.old ≤ K.faults sink.new }
+    ensures faults_kept { OnOk result (K.faults sink.new ≡ K.faults sink.old) }
     ensures cause { IfErr result (WriteCause (K.faults sink.old) (K.faults sink.new)) }
 {
     for line in lines {
@@ -60,9 +60,9 @@ pub fn put_lines<K: Sink>(lines: &[ReportLine], sink: &mut K) -> Result<(), Stop
 /// Writes the text of a header and its separator as one piece.
 pub fn put_opening<K: Sink>(text: &HeaderText, sink: &mut K) -> Result<(), Stop>
     ensures whole { OnOk result (Appends (K.written sink.old) (K.written sink.new) text.now) }
-    ensures cut { IfErr result (λ stop. AppendsPrefix (K.written sink.old) (K.written sink.new) text.now) }
-    ensures later { K.faults sink.old ≤ K.faults sink.new }
-    ensures kept { OnOk result (K.faults sink.new ≡ K.faults sink.old) }
+    ensures writes_a_prefix { IfErr result (λ stop. AppendsPrefix (K.written sink.old) (K.written sink.new) text.now) }
+    ensures faults_never_fall { K.faults sink.old ≤ K.faults sink.new }
+    ensures faults_kept { OnOk result (K.faults sink.new ≡ K.faults sink.old) }
     ensures cause { IfErr result (WriteCause (K.faults sink.old) (K.faults sink.new)) }
 {
     put(text.bytes(), sink)
@@ -71,7 +71,7 @@ pub fn put_opening<K: Sink>(text: &HeaderText, sink: &mut K) -> Result<(), Stop>
 /// Writes the X line that ends a report: the line with this number is refused for this reason. Line 0 is the opening.
 pub fn refuse<K: Sink>(number: u64, reason: u8, sink: &mut K) -> Status
     ensures written { RefusesLine result number reason (K.written sink.old) (K.written sink.new) }
-    ensures later { K.faults sink.old ≤ K.faults sink.new }
+    ensures faults_never_fall { K.faults sink.old ≤ K.faults sink.new }
     ensures write { result ≡ Status.WriteFault → Rose (K.faults sink.old) (K.faults sink.new) }
     ensures writes_kept { result ≢ Status.WriteFault → K.faults sink.new ≡ K.faults sink.old }
 {

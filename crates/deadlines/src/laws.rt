@@ -31,16 +31,16 @@ pub fn turn()
     ensures keeps { (h : Header) (log : Log) (task next : Option AnyTask) (now until idle : ℕ) (waiting later : List ℕ) (n : ℕ) (place : Issued) → IsAccepted h
         → Keeps h log task now until idle waiting n → Turn h log task now until waiting place next later
         → Keeps h (place ∷ log) next (place.clock + 1) until idle later n }
-    ensures sixth { (h : Header) (log : Log) (task next : Option AnyTask) (now until idle : ℕ) (waiting later : List ℕ) (n : ℕ) (place : Issued) → IsAccepted h
+    ensures refreshes_in_time { (h : Header) (log : Log) (task next : Option AnyTask) (now until idle : ℕ) (waiting later : List ℕ) (n : ℕ) (place : Issued) → IsAccepted h
         → Keeps h log task now until idle waiting n → Turn h log task now until waiting place next later
         → IsTrue (rule_6 h place.clock place.command log) }
-    ensures seventh { (h : Header) (log : Log) (task next : Option AnyTask) (now until idle : ℕ) (waiting later : List ℕ) (n : ℕ) (place : Issued) → IsAccepted h
+    ensures refreshes_evenly { (h : Header) (log : Log) (task next : Option AnyTask) (now until idle : ℕ) (waiting later : List ℕ) (n : ℕ) (place : Issued) → IsAccepted h
         → Keeps h log task now until idle waiting n → Turn h log task now until waiting place next later
         → IsTrue (rule_7 place.command log) }
-    ensures eighth { (h : Header) (log : Log) (task next : Option AnyTask) (now until idle : ℕ) (waiting later : List ℕ) (n : ℕ) (place : Issued) → IsAccepted h
+    ensures scrubs_in_step { (h : Header) (log : Log) (task next : Option AnyTask) (now until idle : ℕ) (waiting later : List ℕ) (n : ℕ) (place : Issued) → IsAccepted h
         → Keeps h log task now until idle waiting n → Turn h log task now until waiting place next later
         → IsTrue (rule_8 h place.command log) }
-    ensures thirteenth { (h : Header) (log : Log) (task next : Option AnyTask) (now until idle : ℕ) (waiting later : List ℕ) (n : ℕ) (place : Issued) → IsAccepted h
+    ensures answers_the_alert { (h : Header) (log : Log) (task next : Option AnyTask) (now until idle : ℕ) (waiting later : List ℕ) (n : ℕ) (place : Issued) → IsAccepted h
         → Keeps h log task now until idle waiting n → Turn h log task now until waiting place next later
         → IsTrue (rule_13 h place.clock log) }
     ensures raised { (h : Header) (log : Log) (task next : Option AnyTask) (now until idle : ℕ) (waiting later : List ℕ) (n : ℕ) (place : Issued) → IsAccepted h
@@ -71,10 +71,10 @@ pub fn rest()
     ensures keeps { (h : Header) (log : Log) (now until idle : ℕ) (waiting : List ℕ) (n : ℕ) → IsAccepted h
         → Keeps h log None now until idle waiting n → 8 ≤ length log → alert h log ≡ None → IsNothingDue h (max now until) log
         → Keeps h log None (max now until) until idle waiting n }
-    ensures sixth { (h : Header) (log : Log) (now until idle : ℕ) (waiting : List ℕ) (n : ℕ) → IsAccepted h
+    ensures refreshes_in_time { (h : Header) (log : Log) (now until idle : ℕ) (waiting : List ℕ) (n : ℕ) → IsAccepted h
         → Keeps h log None now until idle waiting n → alert h log ≡ None → IsNothingDue h (max now until) log
         → IsTrue (all_below 4 (λ address. is_on_time h (max now until) address log)) }
-    ensures thirteenth { (h : Header) (log : Log) → alert h log ≡ None → (clock : ℕ) → IsTrue (rule_13 h clock log) }
+    ensures answers_the_alert { (h : Header) (log : Log) → alert h log ≡ None → (clock : ℕ) → IsTrue (rule_13 h clock log) }
 {}
 
 /// How long a job takes: with n requests and these idle clocks, it ends by a clock that is linear in both, with at most n

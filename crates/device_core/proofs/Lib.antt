@@ -3,6 +3,5 @@ pub mod StoreLemmas
 pub mod ToldLemmas
 pub mod StepLemmas
 pub mod ScriptLemmas
-mod LineBytes
-mod NearWords
-mod TameLines
+pub mod NearWords
+pub mod TameLines

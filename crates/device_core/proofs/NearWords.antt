@@ -11,7 +11,7 @@ use Rattle.error_scrub.specs.Cells.{zero_word}
 use Rattle.error_scrub.specs.Changes.{Change, wrote, turns, scrubs, word_after}
 use Rattle.error_scrub.specs.Reading.{data_read, state_of}
 use Rattle.error_scrub.specs.Tame.{turns_since, is_tame, last_written, AreGiven}
-use Rattle.device_core.proofs.LineBytes.{part, zeros-part}
+use Rattle.error_scrub.proofs.LineBytes.{part, zeros-part}
 
 -- what the code of words does, as its own laws say
 pub record Repairs : Type 0 where
@@ -36,7 +36,7 @@ mended-near : Repairs → (bytes word : List ℕ) (count : ℕ) → IsNear bytes
 mended-near laws bytes word count (inl h) = ap mended h.1 ∙ laws.stays bytes
 mended-near laws bytes word count (inr h) = ap mended h.1.2 ∙ laws.undone bytes h.1.0 h.1.1
 
-scrubs-step : Repairs → (t : Bool) (bytes word : List ℕ) (count : ℕ) → IsNear bytes word count → IsNear bytes (cond t (mended word) word) (cond t 0 count)
+pub scrubs-step : Repairs → (t : Bool) (bytes word : List ℕ) (count : ℕ) → IsNear bytes word count → IsNear bytes (cond t (mended word) word) (cond t 0 count)
 scrubs-step laws true bytes word count h = inl (refl, mended-near laws bytes word count h)
 scrubs-step laws false bytes word count h = h
 
@@ -50,7 +50,7 @@ turns-two true true false e = cc
 turns-two false true b e = (refl, λ k. let f : false ≡ true = k in cc)
 turns-two t false b e = cc
 
-turns-step : (t tame : Bool) (bytes word : List ℕ) (count bit : ℕ) → bit < 136 → (tame && not (t && not (count == 0))) ≡ true → (tame ≡ true → IsNear bytes word count)
+pub turns-step : (t tame : Bool) (bytes word : List ℕ) (count bit : ℕ) → bit < 136 → (tame && not (t && not (count == 0))) ≡ true → (tame ≡ true → IsNear bytes word count)
     → IsNear bytes (cond t (turned word bit) word) (cond t (suc count) count)
 turns-step true tame bytes word count bit low e h =
     let k = turns-two true tame (count == 0) e in first-turn bytes word count bit low (eqb-true _ _ (k.1 refl)) (h k.0)

@@ -7,7 +7,7 @@ use Rattle.error_scrub.specs.Changes.{Change, word_after}
 use Rattle.error_scrub.specs.Reading.{worse, IsGood}
 use Rattle.error_scrub.specs.Tame.{is_tame, IsTame, last_written, AreGiven}
 use Rattle.device_core.specs.Stored.{reading}
-use Rattle.device_core.proofs.LineBytes.{part, parts, sixteen, last-bytes}
+use Rattle.error_scrub.proofs.LineBytes.{part, parts, sixteen, last-bytes}
 use Rattle.device_core.proofs.NearWords.{Repairs, IsRead, near, read-near}
 
 word-read : Repairs → (changes : List Change) (line device : ℕ) → device < 4 → AreGiven changes → is_tame changes line device ≡ true → IsRead (part (last_written changes line) device) (word_after changes line device)
@@ -15,14 +15,14 @@ word-read laws changes line device low given tame =
     read-near laws (part (last_written changes line) device) (word_after changes line device) _ (sixteen (last_written changes line) device low (last-bytes changes line given)) (near laws changes line device low given tame)
 
 -- four devices read, and their bytes are the line's
-parts-read : (bytes a b c d : List ℕ) → IsBytes 64 bytes → a ≡ part bytes 0 → b ≡ part bytes 1 → c ≡ part bytes 2 → d ≡ part bytes 3 → ((a ++ b) ++ c) ++ d ≡ bytes
+pub parts-read : (bytes a b c d : List ℕ) → IsBytes 64 bytes → a ≡ part bytes 0 → b ≡ part bytes 1 → c ≡ part bytes 2 → d ≡ part bytes 3 → ((a ++ b) ++ c) ++ d ≡ bytes
 parts-read bytes a b c d whole e f g h =
     ap (λ x. ((x ++ b) ++ c) ++ d) e ∙ ap (λ x. ((part bytes 0 ++ x) ++ c) ++ d) f ∙ ap (λ x. ((part bytes 0 ++ part bytes 1) ++ x) ++ d) g ∙ ap (λ x. ((part bytes 0 ++ part bytes 1) ++ part bytes 2) ++ x) h
     ∙ append_assoc (part bytes 0 ++ part bytes 1) (part bytes 2) (part bytes 3)
     ∙ append_assoc (part bytes 0) (part bytes 1) (part bytes 2 ++ part bytes 3)
     ∙ parts bytes whole.counted
 
-good-worse : (a b : ReadState) → IsGood a → IsGood b → IsGood (worse a b)
+pub good-worse : (a b : ReadState) → IsGood a → IsGood b → IsGood (worse a b)
 good-worse Clean b h k = k
 good-worse Fixed Clean h k = inr refl
 good-worse Fixed Fixed h k = inr refl

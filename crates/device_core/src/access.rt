@@ -33,7 +33,7 @@ pub(crate) fn access(
         (visits h (with_command clock command.now (lent bytes.entry) steps))) }
     ensures line { IfOk result (λ line. (h : AnyHeader) (steps : List Step) → AreOf rows.now store.old h steps
         → IsGiven h clock command.now (lent bytes.entry) steps → line ≡ answer h command.now steps) }
-    ensures err { OnErr result (StoreUnchanged store.old store.new) }
+    ensures unchanged { OnErr result (StoreUnchanged store.old store.new) }
     ensures only_writes { OnErr result (IsTrue (is_wr command.now)) }
 {
     match command {
@@ -84,11 +84,11 @@ fn write(
 ) -> Result<(), OutOfMemory>
     requires bank { bank_number bank.now < 32 }
     requires are { AreOfSome rows.now store.old }
-    ensures ok { OnOk result ((h : AnyHeader) (steps : List Step) → AreOf rows.now store.old h steps
+    ensures stands { OnOk result ((h : AnyHeader) (steps : List Step) → AreOf rows.now store.old h steps
         → IsTrue (is_some (open_at (bank_number bank.now) (log_of steps))) → IsTrue (is_some (lent bytes.entry))
         → StoreFor store.new (shape_of h)
         (also (change_of h (AnyWr bank.now column) (lent bytes.entry) (log_of steps)) (changes_of h steps)) (visits h steps)) }
-    ensures err { OnErr result (StoreUnchanged store.old store.new) }
+    ensures unchanged { OnErr result (StoreUnchanged store.old store.new) }
 {
     match (rows.place(bank, column), bytes) {
         (Some(place), Some(bytes)) => store.write(place, bytes),

@@ -99,7 +99,7 @@ impl Device {
             → MayFollow h clock command words (lent bytes.entry) steps
             → reply.alert ≡ is_some (alert h (log_of (with_command clock command (lent bytes.entry) steps)))) }
         ensures geometry { geometry_of self.new ≡ geometry_of self.old }
-        ensures err { OnErr result (IsUnchanged self.old self.new) }
+        ensures unchanged { OnErr result (IsUnchanged self.old self.new) }
         ensures only_writes { OnErr result ((command : AnyCommand) → IsInRange command → Spells command words → IsTrue (is_wr command)) }
     {
         give_back();
@@ -124,7 +124,7 @@ impl Device {
         ensures stands { OnOk result ((h : AnyHeader) (steps : List Step) → StandsFor self.old h steps
             → StandsFor self.new h (Flips place device bit ∷ steps)) }
         ensures geometry { geometry_of self.new ≡ geometry_of self.old }
-        ensures err { OnErr result (IsUnchanged self.old self.new) }
+        ensures unchanged { OnErr result (IsUnchanged self.old self.new) }
     {
         Device::unchanged_stands();
         self.store.flip(place, device, bit)

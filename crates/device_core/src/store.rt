@@ -37,9 +37,9 @@ impl Store {
     // The line at the place becomes these bytes.
     pub(crate) fn write(&mut self, place: Place, bytes: &[u8; 64]) -> Result<(), OutOfMemory>
         requires { IsInside place (cells_shape self.old.cells) }
-        ensures ok { OnOk result ((g : Shape) (changes : List Change) (visits : List Visit) → StandsFor self.old g changes visits
+        ensures stands { OnOk result ((g : Shape) (changes : List Change) (visits : List Visit) → StandsFor self.old g changes visits
             → StandsFor self.new g (wrote (line_of place g) bytes.now ∷ changes) visits) }
-        ensures err { OnErr result (IsUnchanged self.old self.new) }
+        ensures unchanged { OnErr result (IsUnchanged self.old self.new) }
     {
         laws::cells_stand();
         self.cells.write(place, bytes)
@@ -59,10 +59,10 @@ impl Store {
         requires place { IsInside place (cells_shape self.old.cells) }
         requires device { device < 4 }
         requires bit { bit < 136 }
-        ensures ok { OnOk result ((g : Shape) (changes : List Change) (visits : List Visit) → StandsFor self.old g changes visits
+        ensures stands { OnOk result ((g : Shape) (changes : List Change) (visits : List Visit) → StandsFor self.old g changes visits
             → StandsFor self.new g (turns (line_of place g) device bit ∷ changes) visits) }
         ensures shape { cells_shape self.new.cells ≡ cells_shape self.old.cells }
-        ensures err { OnErr result (IsUnchanged self.old self.new) }
+        ensures unchanged { OnErr result (IsUnchanged self.old self.new) }
     {
         laws::cells_stand();
         self.cells.flip(place, device, bit)

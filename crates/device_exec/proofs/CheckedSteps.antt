@@ -156,15 +156,16 @@ inside_device law it place ready inside = record {
 }
 
 pub flipped : (it new : CheckedDevice) (h : Header) (steps : List Step) (line : ℕ) (place : Place) (device bit : ℕ) → Keeps it h steps Ready → place ≡ place_of line it.memory.geometry
-    → new.auditor ≡ it.auditor → DeviceFor new.memory.device h (Flips place device bit ∷ steps) → new.memory.banks ≡ it.memory.banks → new.memory.geometry ≡ it.memory.geometry → new.waiting ≡ it.waiting → new.last ≡ it.last
+    → new.auditor ≡ it.auditor → DeviceFor new.memory.device h (Flips place device bit ∷ steps) → new.memory.banks ≡ it.memory.banks → new.memory.geometry ≡ it.memory.geometry → new.memory.raised ≡ it.memory.raised → new.waiting ≡ it.waiting → new.last ≡ it.last
     → Keeps new h (Flips (place_of line (shape_of h)) device bit ∷ steps) Ready
-flipped it new h steps line place device bit keeps at auditor flips banks geometry waiting last = record {
+flipped it new h steps line place device bit keeps at auditor flips banks geometry raised waiting last = record {
   shape = ap auditor_geometry auditor ∙ keeps.shape;
   auditor = subst (λ (a : Judge). IsFine a h (log_of steps)) (sym auditor) keeps.auditor;
   memory = record {
     device = subst (λ (p : Place). DeviceFor new.memory.device h (Flips p device bit ∷ steps)) (at ∙ ap (place_of line) keeps.memory.geometry) flips;
     banks = subst (λ (rows : List (Option ℕ)). BanksFor rows (log_of steps)) (sym banks) keeps.memory.banks;
     geometry = geometry ∙ keeps.memory.geometry;
+    raised = raised ∙ keeps.memory.raised;
   };
   waiting = ap (option_map place_in) waiting ∙ keeps.waiting;
   awaited = tt;

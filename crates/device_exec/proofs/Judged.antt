@@ -22,6 +22,7 @@ use Rattle.log_auditor.specs.Auditing.{Taken, has_ended, is_end, told}
 use Rattle.log_auditor.specs.declared.judge.Judge.{Judge}
 use Rattle.log_auditor.specs.declared.verdict.Rule.{Rule}
 use Rattle.log_auditor.specs.declared.verdict.Verdict.TheVariants.{Fine, Breaks}
+use Rattle.speed_bin.specs.Alert.{alert}
 use Rattle.speed_bin.specs.Header.{shape_of}
 use Rattle.speed_bin.specs.Log.{Log, open_at}
 use Rattle.speed_bin.specs.Marks.{is_bank, stays_inside}
@@ -135,8 +136,8 @@ fits h clock command log e = record {
 }
 
 pub took : (it new : Memory) (h : Header) (clock : ℕ) (command : Command) (bytes : Option (List ℕ)) (steps : List Step) → BothStand it h steps → DeviceFor new.device h (with_command clock command bytes steps) → BanksFor new.banks (placed clock command ∷ log_of steps) → new.geometry ≡ it.geometry
-    → BothStand new h (with_command clock command bytes steps)
-took it new h clock command bytes steps b device banks geometry = record { device = device; banks = banks; geometry = geometry ∙ b.geometry }
+    → new.raised ≡ is_some (alert h (log_of (with_command clock command bytes steps))) → BothStand new h (with_command clock command bytes steps)
+took it new h clock command bytes steps b device banks geometry raised = record { device = device; banks = banks; geometry = geometry ∙ b.geometry; raised = raised }
 
 -- ---- The open row of an RD
 

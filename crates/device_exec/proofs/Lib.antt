@@ -4,11 +4,7 @@ pub mod Given
 pub mod Judged
 pub mod Letters
 pub mod Looping
-pub mod LowerHex
 pub mod NextLines
-pub mod Numerals
 pub mod Openings
 pub mod Ordered
-pub mod Parts
 pub mod ScriptLaws
-pub mod Steps

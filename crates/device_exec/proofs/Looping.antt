@@ -11,6 +11,7 @@ use Rattle.ddr_io.specs.Sink.{AppendsPrefix}
 use Rattle.ddr_io.specs.declared.line_reader.Line.TheVariants.{Text as TextAnswer}
 use Rattle.ddr_io.specs.declared.status.Status.{Status}
 use Rattle.ddr_io.specs.declared.status.Status.TheVariants as status
+use Rattle.ddr_text.specs.Io.{io}
 use Rattle.ddr_text.specs.Spelling.{spelled}
 use Rattle.ddr_text.specs.declared.lines.ReportLine.{ReportLine}
 use Rattle.ddr_text.specs.declared.lines.ReportLine.TheVariants.{End as EndLine, Refused as RefusedLine}
@@ -134,15 +135,15 @@ begins h (Some bytes) (Some left) before after lines reads script it continued c
     )
 
 -- the source had a fault
-pub runs_fault : (h : Header) (start left old new before after : Option (List ℕ)) (it : Place) (device : CheckedDevice) → RunsSoFar h start it left device before after → AnswersAs (IsRunBehind h start) status.ReadFault old new before after
+pub runs_fault : (h : Header) (start left old new before after : Option (List ℕ)) (it : Place) (device : CheckedDevice) → RunsSoFar h start it left device before after → AnswersAs (IsRunBehind h start) status.ReadFault (io old new before after)
 runs_fault h start left old new before after it device r = begins h start left before after r.lines r.reads r.script it r.continued (prefix-whole before after (flat_map spelled r.lines) r.written)
 
 -- a line could not be carried out, or not be written
 pub runs_cut : (h : Header) (start now after old end before middle later : Option (List ℕ)) (it new : Place) (device changed : CheckedDevice) (line : ScriptLine) (stop : Stop) (faults risen : ℕ) (r : RunsSoFar h start it now device before middle) → IsStep it new now after (Line line)
-    → Acts (Err stop) (acted four_devices h r.script line) h changed middle later → WriteCause faults risen stop → AnswersAs (IsRunBehind h start) (status_of stop) old end before later
+    → Acts (Err stop) (acted four_devices h r.script line) h changed middle later → WriteCause faults risen stop → AnswersAs (IsRunBehind h start) (status_of stop) (io old end before later)
 runs_cut h start now after old end before middle later it new device changed line stop faults risen r step acts cause = go (acted four_devices h r.script line) refl acts
   where
-    go : (e : Effect) → acted four_devices h r.script line ≡ e → Acts (Err stop) e h changed middle later → AnswersAs (IsRunBehind h start) (status_of stop) old end before later
+    go : (e : Effect) → acted four_devices h r.script line ≡ e → Acts (Err stop) e h changed middle later → AnswersAs (IsRunBehind h start) (status_of stop) (io old end before later)
     go (Moves more got next) is cut =
         let s = begins h start after before later (r.lines ++ more) (r.reads ++ got) next new (continues_line h start now after r.lines more r.reads got r.script next it new line r.continued step is)
         (subst (AppendsPrefix before later) (sym (flat_map-append spelled r.lines more)) (prefix-behind before middle later (flat_map spelled r.lines) (flat_map spelled more) r.written cut)) in
@@ -162,7 +163,7 @@ ends_with h (Some bytes) (Some left) lines reads script it text whole continued 
     ∙ ap (λ (t : List ℕ). record { text = t; status = rest.status }) (text_behind lines reads rest ∙ ap (λ (t : List ℕ). flat_map spelled lines ++ t) p.0)
     ∙ ap (λ (s : Status). record { text = flat_map spelled lines ++ text; status = s }) p.1
 
-pub closed : (Is : Outcome → Type 0) (whole answer : Status) (front text : List ℕ) (old new before middle after : Option (List ℕ)) → Is (record { text = front ++ text; status = whole }) → Appends before middle front → Closes whole answer text middle after → (whole ≡ status.Ok → ReadsAll old new) → AnswersAs Is answer old new before after
+pub closed : (Is : Outcome → Type 0) (whole answer : Status) (front text : List ℕ) (old new before middle after : Option (List ℕ)) → Is (record { text = front ++ text; status = whole }) → Appends before middle front → Closes whole answer text middle after → (whole ≡ status.Ok → ReadsAll old new) → AnswersAs Is answer (io old new before after)
 closed Is whole status.Ok front text old new before middle after is wrote (same, more) all =
     ((record { text = front ++ text; status = whole }, is, sym same, Appends-trans before middle after front text wrote more), all same)
 closed Is whole status.Refused front text old new before middle after is wrote (same, more) all = (record { text = front ++ text; status = whole }, is, sym same, Appends-trans before middle after front text wrote more)
@@ -177,10 +178,10 @@ left_of it new line now after bytes step there = let s = subst (λ (o : Option (
 
 -- a rule is broken
 pub runs_broken : (h : Header) (start now after old end before middle later : Option (List ℕ)) (it new : Place) (device changed : CheckedDevice) (line : ScriptLine) (rule : Rule) (number : ℕ) (answer : Status) (wrote : Option (List ℕ)) (r : RunsSoFar h start it now device before middle) → IsStep it new now after (Line line) → number ≡ it.number
-    → Acts (Ok (Some rule)) (acted four_devices h r.script line) h changed middle wrote → Closes status.Broken answer (broken_text number rule.0) wrote later → AnswersAs (IsRunBehind h start) answer old end before later
+    → Acts (Ok (Some rule)) (acted four_devices h r.script line) h changed middle wrote → Closes status.Broken answer (broken_text number rule.0) wrote later → AnswersAs (IsRunBehind h start) answer (io old end before later)
 runs_broken h start now after old end before middle later it new device changed line rule number answer wrote r step numbered acts closes = go (acted four_devices h r.script line) refl acts
   where
-    go : (e : Effect) → acted four_devices h r.script line ≡ e → Acts (Ok (Some rule)) e h changed middle wrote → AnswersAs (IsRunBehind h start) answer old end before later
+    go : (e : Effect) → acted four_devices h r.script line ≡ e → Acts (Ok (Some rule)) e h changed middle wrote → AnswersAs (IsRunBehind h start) answer (io old end before later)
     go (Moves more got next) is acts = absurd acts
     go (Breaks own) is (same, kept) =
         let number_is : r.script.number ≡ number = sym r.numbered ∙ sym numbered in
@@ -204,7 +205,7 @@ refusal_closes status.Broken n k a b refuses = absurd refuses
 
 -- a line is refused
 pub runs_refused : (h : Header) (start left next old end before middle after : Option (List ℕ)) (it new : Place) (device : CheckedDevice) (number reason : ℕ) (answer : Status) (r : RunsSoFar h start it left device before middle) → IsStep it new left next (RefusedNext number reason)
-    → RefusesLine answer number reason middle after → AnswersAs (IsRunBehind h start) answer old end before after
+    → RefusesLine answer number reason middle after → AnswersAs (IsRunBehind h start) answer (io old end before after)
 runs_refused h start left next old end before middle after it new device number reason answer r step refuses =
     closed (IsRunBehind h start) status.Refused answer (flat_map spelled r.lines) (spelled (RefusedLine number reason)) old end before middle after
     (ends_with h start left r.lines r.reads r.script it (spelled (RefusedLine number reason)) status.Refused r.continued
@@ -221,7 +222,7 @@ all_read it new (Some bytes) end None kept held h lines reads script clock conti
 all_read it new (Some bytes) end (Some xs) kept held h lines reads script clock continued step = none-left held end step.0
 
 pub runs_ended : (h : Header) (old end left before middle after : Option (List ℕ)) (kept held : List ℕ) (it new : Place) (device : CheckedDevice) (clock : ℕ) (answer : Status) (r : RunsSoFar h (next_bytes kept old) it left device before middle) → IsStep it new left (next_bytes held end) (EndNext clock)
-    → Closes status.Ok answer (flat_map spelled (four_devices.counts h r.script.steps ++ EndLine clock ∷ [])) middle after → AnswersAs (IsRunBehind h (next_bytes kept old)) answer old end before after
+    → Closes status.Ok answer (flat_map spelled (four_devices.counts h r.script.steps ++ EndLine clock ∷ [])) middle after → AnswersAs (IsRunBehind h (next_bytes kept old)) answer (io old end before after)
 runs_ended h old end left before middle after kept held it new device clock answer r step closes =
     let counts = flat_map spelled (four_devices.counts h r.script.steps ++ EndLine clock ∷ []) in
     closed (IsRunBehind h (next_bytes kept old)) status.Ok answer (flat_map spelled r.lines) counts old end before middle after
@@ -237,5 +238,5 @@ runs_ended h old end left before middle after kept held it new device clock answ
 pub closes_no_read : (whole answer : Status) (text : List ℕ) (before after : Option (List ℕ)) → Closes whole answer text before after → answer ≡ status.ReadFault → ⊥
 closes_no_read whole answer text before after closes e = subst (λ (s : Status). Closes whole s text before after) e closes
 
-pub answers_usage : (answer : Status) (Is : Outcome → Type 0) (old new before after : Option (List ℕ)) → AnswersAs Is answer old new before after → answer ≡ status.Usage → ⊥
-answers_usage answer Is old new before after answers e = subst (λ (s : Status). AnswersAs Is s old new before after) e answers
+pub answers_usage : (answer : Status) (Is : Outcome → Type 0) (old new before after : Option (List ℕ)) → AnswersAs Is answer (io old new before after) → answer ≡ status.Usage → ⊥
+answers_usage answer Is old new before after answers e = subst (λ (s : Status). AnswersAs Is s (io old new before after)) e answers

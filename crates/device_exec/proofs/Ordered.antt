@@ -6,6 +6,7 @@ use Rattle.command_words.specs.Place.{place_of}
 use Rattle.command_words.specs.declared.command.Command.{Command}
 use Rattle.ddr_io.specs.declared.status.Status.{Status}
 use Rattle.ddr_io.specs.declared.status.Status.TheVariants as status
+use Rattle.ddr_text.specs.Io.{io}
 use Rattle.ddr_text.specs.Opening.{Opens, Accepts, opening_of, parts_of}
 use Rattle.ddr_text.specs.Outcome.{AnswersAs, EndsAs, Outcome}
 use Rattle.ddr_text.specs.ReportParts.{Refusal}
@@ -226,11 +227,11 @@ judged_in_order d h rest =
 -- ---- What is answered
 
 -- such a script is neither refused nor broken
-pub unblamed : (old new before after : Option (List ℕ)) (answer : Status) → AnswersAs (IsExecuted old) answer old new before after → (bytes rest text : List ℕ) (h : Header) (clock : ℕ) → old ≡ Some bytes → opening_of bytes ≡ Accepts h text rest
+pub unblamed : (old new before after : Option (List ℕ)) (answer : Status) → AnswersAs (IsExecuted old) answer (io old new before after) → (bytes rest text : List ℕ) (h : Header) (clock : ℕ) → old ≡ Some bytes → opening_of bytes ≡ Accepts h text rest
     → IsFlawless four_devices h rest clock → IsUnblamed answer
 unblamed old new before after answer answers bytes rest text h clock is opens fine = (
-  λ (e : answer ≡ status.Refused). never status.Refused (subst (λ (s : Status). AnswersAs (IsExecuted old) s old new before after) e answers) (λ f. cc),
-  λ (e : answer ≡ status.Broken). never status.Broken (subst (λ (s : Status). AnswersAs (IsExecuted old) s old new before after) e answers) (λ f. cc),
+  λ (e : answer ≡ status.Refused). never status.Refused (subst (λ (s : Status). AnswersAs (IsExecuted old) s (io old new before after)) e answers) (λ f. cc),
+  λ (e : answer ≡ status.Broken). never status.Broken (subst (λ (s : Status). AnswersAs (IsExecuted old) s (io old new before after)) e answers) (λ f. cc),
 )
   where
     never : (s : Status) → EndsAs (IsExecuted old) s before after → (s ≡ status.Ok → ⊥) → ⊥

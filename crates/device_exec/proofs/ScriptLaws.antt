@@ -15,10 +15,10 @@ use Rattle.ddr_text.specs.Spelling.{report_text, spaced_words}
 use Rattle.ddr_text.specs.declared.lines.LineFault.{LineFault}
 use Rattle.ddr_text.specs.declared.lines.ReportLine.{ReportLine}
 use Rattle.ddr_text.specs.declared.lines.ReportLine.TheVariants.{Issued as IssuedLine, Value, Flip as FlipLine, Stat, End as EndLine, Refused}
-use Rattle.device_exec.proofs.LowerHex.{lower-in, lower-Ok}
-use Rattle.device_exec.proofs.Numerals.{number-decimal, decimal-number}
-use Rattle.device_exec.proofs.Parts.{field-last, field-next, fields-joined, unspaced-decimal, unspaced-lower}
-use Rattle.device_exec.proofs.Steps.{same-Ok, bind-Ok, below-Ok, below-in, one-Ok, three-Ok}
+use Rattle.ddr_text.proofs.LowerHex.{lower-in, lower-Ok}
+use Rattle.ddr_text.proofs.Numerals.{number-decimal, decimal-number}
+use Rattle.ddr_text.proofs.Parts.{field-last, field-next, fields-joined, unspaced-decimal, unspaced-lower}
+use Rattle.ddr_text.proofs.Steps.{same-Ok, bind-Ok, below-Ok, below-in, one-Ok, three-Ok}
 use Rattle.device_exec.specs.ScriptGrammar.{IsScriptLine, ScriptLines, bytes_line_of, flip_line_of, of_report, script_line_of, script_line_of_fields, script_text}
 use Rattle.device_exec.specs.declared.script_line.ScriptLine.{ScriptLine}
 use Rattle.device_exec.specs.declared.script_line.ScriptLine.TheVariants.{Issued, Bytes, Flip, End}

@@ -1,6 +1,6 @@
 -- What a checked device stands for: an auditor and a device that go through one list of steps, in which every command was judged
 -- before the device was given it. The auditor is one command ahead where a WR waits for its bytes.
-use Rattle.std.specs.Prelude.{ℕ, ◌≡◌, ◌<◌, ◌^◌, ⊤, true, false, Option, Some, None, option_map, List, ◌∷◌}
+use Rattle.std.specs.Prelude.{ℕ, ◌≡◌, ◌<◌, ◌^◌, ⊤, true, false, Option, Some, None, option_map, is_some, List, ◌∷◌}
 use Rattle.bank_state.specs.Standing.{StandsFor as BanksFor}
 use Rattle.command_words.specs.Geometry.{Shape}
 use Rattle.command_words.specs.Kinds.{is_wr}
@@ -16,6 +16,7 @@ use Rattle.error_scrub.specs.declared.cells.LineRead.{LineRead}
 use Rattle.log_auditor.specs.Auditing.{StandsFor as AuditorFor, geometry_of as auditor_geometry, has_ended}
 use Rattle.log_auditor.specs.declared.judge.Judge.{Judge}
 use Rattle.log_auditor.specs.declared.verdict.Rule.{Rule}
+use Rattle.speed_bin.specs.Alert.{alert}
 use Rattle.speed_bin.specs.Header.{shape_of}
 use Rattle.speed_bin.specs.Log.{Issued as Place, Log}
 use Rattle.speed_bin.specs.Rules.{broken, broken_at_end, verdict}
@@ -57,11 +58,12 @@ pub record IsJudged (h : Header) (clock : ℕ) (command : Command) (bytes : Opti
 
 -- ---- The device
 
--- the device and its open rows stand for the steps
+-- the device, its open rows and its alert are those of the steps
 pub record BothStand (it : Memory) (h : Header) (steps : List Step) : Type 0 where
   pub device : DeviceFor it.device h steps
   pub banks : BanksFor it.banks (log_of steps)
   pub geometry : it.geometry ≡ shape_of h
+  pub raised : it.raised ≡ is_some (alert h (log_of steps))
 
 -- the device stands for a list behind which the command was judged
 abbrev pub MayGive : Held → ℕ → Command → Option (List ℕ) → Type 0

@@ -1,11 +1,12 @@
 //! A device that is given only what an auditor found fine.
-ghost use Rattle.std.specs.Prelude.{ℕ, ◌≡◌, ◌≤◌, List, Option, OnOk, OnErr, IfOk, None, Some, [], ◌∷◌};
+ghost use Rattle.std.specs.Prelude.{ℕ, ◌≡◌, ◌≤◌, List, Option, OnOk, OnErr, IfOk, None, Some, [], ◌∷◌, is_some};
 ghost use Rattle.command_words.specs.Place.{place_of};
 ghost use Rattle.ddr_text.specs.AcceptedReport.{IsReportLine};
 ghost use Rattle.ddr_text.specs.declared.lines.ReportLine.{ReportLine};
 ghost use Rattle.device_core.specs.Standing.{with_command};
 ghost use Rattle.device_core.specs.Steps.{Step, Flips, log_of};
 ghost use Rattle.device_core.specs.Stored.{scrub_counts as scrub_counts_of};
+ghost use Rattle.speed_bin.specs.Alert.{alert};
 ghost use Rattle.speed_bin.specs.Counts.{peak as peak_of};
 ghost use Rattle.speed_bin.specs.Header.{IsAccepted, bound, shape_of};
 ghost use Rattle.speed_bin.specs.Log.{Issued};
@@ -178,6 +179,13 @@ impl CheckedDevice {
         ensures { (h : AnyHeader) (steps : List Step) (phase : Phase) → StandsFor self.now h steps phase → result ≡ last_clock (log_of steps) }
     {
         self.last
+    }
+
+    /// Whether ALERT is raised behind the last command that the device was given.
+    pub fn is_alert_raised(&self) -> bool
+        ensures { (h : AnyHeader) (steps : List Step) (phase : Phase) → StandsFor self.now h steps phase → result ≡ is_some (alert h (log_of steps)) }
+    {
+        self.memory.raised
     }
 
     /// The greatest number of activations since mitigation that a row had so far, an open row's included.

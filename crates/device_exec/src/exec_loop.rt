@@ -36,7 +36,7 @@ use std::alloc::Global;
 /// the first line at which a rule fails with `A broken`. It keeps no list of the lines.
 #[inline(never)]
 pub fn exec<S: Source, K: Sink>(alloc: Global, source: &mut S, sink: &mut K) -> Status
-    ensures answer { AnswersAs (IsExecuted (S.left source.old)) result (S.left source.old) (S.left source.new) (K.written sink.old) (K.written sink.new) }
+    ensures answer { AnswersAs (IsExecuted (S.left source.old)) result (record { had = S.left source.old; left = S.left source.new; written_before = K.written sink.old; written_after = K.written sink.new }) }
     ensures usage { result ≢ Status.Usage }
 
     // What comes of the script, whoever made it: its lines are judged in their order by the rules alone, its reads are those of
@@ -64,7 +64,7 @@ pub fn exec<S: Source, K: Sink>(alloc: Global, source: &mut S, sink: &mut K) -> 
 
 // Opens the script, and runs it.
 fn run_script<S: Source, K: Sink>(alloc: Global, source: &mut S, sink: &mut K) -> Status
-    ensures answer { AnswersAs (IsExecuted (S.left source.old)) result (S.left source.old) (S.left source.new) (K.written sink.old) (K.written sink.new) }
+    ensures answer { AnswersAs (IsExecuted (S.left source.old)) result (record { had = S.left source.old; left = S.left source.new; written_before = K.written sink.old; written_after = K.written sink.new }) }
     ensures usage { result ≢ Status.Usage }
     ensures read { result ≡ Status.ReadFault → Rose (S.faults source.old) (S.faults source.new) }
     ensures write { result ≡ Status.WriteFault → Rose (K.faults sink.old) (K.faults sink.new) }
@@ -93,7 +93,7 @@ fn run_behind<S: Source, K: Sink>(
 ) -> Status
     requires accepted { IsAccepted header.now }
     requires going_on { reader.last ≡ Line.Text }
-    ensures answer { AnswersAs (IsOpened header.now text.now (next_bytes reader.held (S.left source.old))) result (S.left source.old) (S.left source.new) (K.written sink.old) (K.written sink.new) }
+    ensures answer { AnswersAs (IsOpened header.now text.now (next_bytes reader.held (S.left source.old))) result (record { had = S.left source.old; left = S.left source.new; written_before = K.written sink.old; written_after = K.written sink.new }) }
     ensures read { result ≡ Status.ReadFault → Rose (S.faults source.old) (S.faults source.new) }
     ensures write { result ≡ Status.WriteFault → Rose (K.faults sink.old) (K.faults sink.new) }
     ensures reads_kept { result ≢ Status.ReadFault → S.faults source.new ≡ S.faults source.old }
@@ -121,7 +121,7 @@ fn run_lines<S: Source, K: Sink>(
     requires accepted { IsAccepted header.now }
     requires going_on { reader.last ≡ Line.Text }
     requires stands { StandsFor device.old header.now [] Ready }
-    ensures answer { AnswersAs (IsRunBehind header.now (next_bytes reader.held (S.left source.old))) result (S.left source.old) (S.left source.new) (K.written sink.old) (K.written sink.new) }
+    ensures answer { AnswersAs (IsRunBehind header.now (next_bytes reader.held (S.left source.old))) result (record { had = S.left source.old; left = S.left source.new; written_before = K.written sink.old; written_after = K.written sink.new }) }
     ensures read { result ≡ Status.ReadFault → Rose (S.faults source.old) (S.faults source.new) }
     ensures write { result ≡ Status.WriteFault → Rose (K.faults sink.old) (K.faults sink.new) }
     ensures reads_kept { result ≢ Status.ReadFault → S.faults source.new ≡ S.faults source.old }
@@ -153,7 +153,7 @@ fn act<K: Sink>(
     requires { MayAct device.old number line.now }
     ensures acts { (h : AnyHeader) (script : Script) → IsAt device.old h script number line.now
         → Acts result (acted four_devices h script line.now) h device.new (K.written sink.old) (K.written sink.new) }
-    ensures kept { OnOk result (K.faults sink.new ≡ K.faults sink.old) }
+    ensures faults_kept { OnOk result (K.faults sink.new ≡ K.faults sink.old) }
     ensures cause { IfErr result (WriteCause (K.faults sink.old) (K.faults sink.new)) }
 {
     CheckedDevice::has_shape();
@@ -177,7 +177,7 @@ fn issue<K: Sink>(
     requires ready { IsReady device.old }
     ensures acts { (h : AnyHeader) (script : Script) → StandsFor device.old h script.steps Ready → number ≡ script.number
         → Acts result (acted four_devices h script (AnyScriptLine.Issued clock command.now)) h device.new (K.written sink.old) (K.written sink.new) }
-    ensures kept { OnOk result (K.faults sink.new ≡ K.faults sink.old) }
+    ensures faults_kept { OnOk result (K.faults sink.new ≡ K.faults sink.old) }
     ensures cause { IfErr result (WriteCause (K.faults sink.old) (K.faults sink.new)) }
 {
     let checked = device.command(clock, *command);
@@ -194,7 +194,7 @@ fn show_command<K: Sink>(
 ) -> Result<Option<Rule>, Stop>
     ensures acts { (h : AnyHeader) (script : Script) (new : AnyCheckedDevice) → number ≡ script.number → Commands checked.now new h clock command.now script.steps
         → Acts result (acted four_devices h script (AnyScriptLine.Issued clock command.now)) h new (K.written sink.old) (K.written sink.new) }
-    ensures kept { OnOk result (K.faults sink.new ≡ K.faults sink.old) }
+    ensures faults_kept { OnOk result (K.faults sink.new ≡ K.faults sink.old) }
     ensures cause { IfErr result (WriteCause (K.faults sink.old) (K.faults sink.new)) }
 {
     match checked {
@@ -239,7 +239,7 @@ fn flip<K: Sink>(
     requires ready { IsReady device.old }
     ensures acts { (h : AnyHeader) (script : Script) → StandsFor device.old h script.steps Ready
         → Acts result (acted four_devices h script (AnyScriptLine.Flip line chip bit)) h device.new (K.written sink.old) (K.written sink.new) }
-    ensures kept { OnOk result (K.faults sink.new ≡ K.faults sink.old) }
+    ensures faults_kept { OnOk result (K.faults sink.new ≡ K.faults sink.old) }
     ensures cause { IfErr result (WriteCause (K.faults sink.old) (K.faults sink.new)) }
 {
     let clock = device.last_clock();

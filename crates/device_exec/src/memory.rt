@@ -24,6 +24,8 @@ pub(crate) struct Memory {
     pub(crate) device: Device,
     banks: Banks,
     pub(crate) geometry: Geometry,
+    // Whether the alert is raised.
+    pub(crate) raised: bool,
 }
 
 impl Memory {
@@ -36,6 +38,7 @@ impl Memory {
             device: Device::new(alloc, header)?,
             banks: Banks::new(),
             geometry: header.geometry(),
+            raised: false,
         })
     }
 
@@ -54,9 +57,10 @@ impl Memory {
         ensures unchanged { OnErr result ((h : AnyHeader) (steps : List Step) → BothStand self.old h steps → BothStand self.new h steps) }
         ensures only_writes { OnErr result (is_wr command ≡ true) }
     {
-        let read = give(&mut self.device, clock, command, bytes)?;
+        let reply = give(&mut self.device, clock, command, bytes)?;
         self.banks.issue(&command);
-        Ok(read)
+        self.raised = reply.alert;
+        Ok(reply.line)
     }
 
     // The line that an RD reads.

@@ -99,11 +99,11 @@ impl ScriptReader {
         ensures ended { (clock : ℕ) → result ≡ Next.End clock → self.old.stage ≡ Stage.Ended clock }
 
         // A fault is told where the source counted one.
-        ensures later { S.faults source.old ≤ S.faults source.new }
+        ensures faults_never_fall { S.faults source.old ≤ S.faults source.new }
         ensures failed { result ≡ Next.Failed → Rose (S.faults source.old) (S.faults source.new) }
 
         // Any other answer leaves the count: no failed read is tried again.
-        ensures kept { result ≢ Next.Failed → S.faults source.new ≡ S.faults source.old }
+        ensures faults_kept { result ≢ Next.Failed → S.faults source.new ≡ S.faults source.old }
     {
         ddr_text::laws::lines_are_parts();
         match self.reader.next_line(source) {

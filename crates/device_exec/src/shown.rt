@@ -34,8 +34,8 @@ pub fn put_command<K: Sink>(
     sink: &mut K,
 ) -> Result<(), Stop>
     ensures whole { OnOk result (Appends (K.written sink.old) (K.written sink.new) (flat_map spelled (AnyReportLine.Issued clock command ∷ data_lines number answer.now))) }
-    ensures cut { IfErr result (λ stop. AppendsPrefix (K.written sink.old) (K.written sink.new) (flat_map spelled (AnyReportLine.Issued clock command ∷ data_lines number answer.now))) }
-    ensures kept { OnOk result (K.faults sink.new ≡ K.faults sink.old) }
+    ensures writes_a_prefix { IfErr result (λ stop. AppendsPrefix (K.written sink.old) (K.written sink.new) (flat_map spelled (AnyReportLine.Issued clock command ∷ data_lines number answer.now))) }
+    ensures faults_kept { OnOk result (K.faults sink.new ≡ K.faults sink.old) }
     ensures cause { IfErr result (WriteCause (K.faults sink.old) (K.faults sink.new)) }
 {
     match put_line(&ReportLine::Issued(clock, command), sink) {
@@ -47,8 +47,8 @@ pub fn put_command<K: Sink>(
 // Writes the D line of an answer, if there is one.
 fn put_answer<K: Sink>(number: u64, answer: &Option<Answer>, sink: &mut K) -> Result<(), Stop>
     ensures whole { OnOk result (Appends (K.written sink.old) (K.written sink.new) (flat_map spelled (data_lines number answer.now))) }
-    ensures cut { IfErr result (λ stop. AppendsPrefix (K.written sink.old) (K.written sink.new) (flat_map spelled (data_lines number answer.now))) }
-    ensures kept { OnOk result (K.faults sink.new ≡ K.faults sink.old) }
+    ensures writes_a_prefix { IfErr result (λ stop. AppendsPrefix (K.written sink.old) (K.written sink.new) (flat_map spelled (data_lines number answer.now))) }
+    ensures faults_kept { OnOk result (K.faults sink.new ≡ K.faults sink.old) }
     ensures cause { IfErr result (WriteCause (K.faults sink.old) (K.faults sink.new)) }
 {
     match answer {

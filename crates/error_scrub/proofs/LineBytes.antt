@@ -1,5 +1,5 @@
--- Bytes of a line, the 16 of each of its four devices, and what a reading finds of them.
-use Rattle.std.proofs.Common.{◌≡◌, ℕ, zero, suc, ◌+◌, ◌*◌, ◌<◌, ◌≤◌, List, [], ◌∷◌, ◌++◌, length, replicate, take, drop, refl, sym, ap, ◌∙◌, arith, append-nil}
+-- Bytes of a line, the 16 of each of its four devices, what a reading finds of them, and what a line was last written with.
+use Rattle.std.proofs.Common.{◌≡◌, ℕ, zero, suc, ◌+◌, ◌*◌, ◌<◌, ◌≤◌, ◌==◌, Bool, true, cond, List, [], ◌∷◌, ◌++◌, length, replicate, take, drop, refl, sym, ap, ◌∙◌, arith, append-nil}
 use Rattle.std.specs.Prelude.{slice_index, slice_range}
 use Rattle.std.proofs.lemmas.List.{length-take, append_assoc}
 use Rattle.std.proofs.lemmas.List.Folds.{drop_split}
@@ -14,11 +14,17 @@ use Rattle.ondie_ecc.proofs.LawLemmas.{mended-codeword}
 use Rattle.error_scrub.specs.declared.cells.LineRead.{LineRead}
 use Rattle.error_scrub.specs.declared.stored.Stored.{Stored}
 use Rattle.error_scrub.specs.declared.stored.Stored.TheVariants.{Bytes}
+use Rattle.error_scrub.specs.Changes.{Change, wrote, turns, scrubs}
 use Rattle.error_scrub.specs.Cells.{zero_word, written, word_of, read_of}
 use Rattle.error_scrub.specs.Reading.{data_read, state_of, worse}
 use Rattle.error_scrub.specs.Scrubbing.{is_fixed, is_lost}
+use Rattle.error_scrub.specs.Tame.{AreGiven, last_written}
 use Rattle.error_scrub.proofs.WordKinds.{clean_state, clean_fixed, clean_lost}
 use Rattle.error_scrub.proofs.ZeroWords.{read_is}
+
+-- the bytes of a line that was never written
+abbrev pub zeros : List ℕ
+zeros = replicate 64 0
 
 -- the bytes of a device
 abbrev pub part : List ℕ → ℕ → List ℕ
@@ -134,3 +140,25 @@ written-not_fixed kept bytes device e = rw e (clean_fixed (written bytes device)
 
 pub written-not_lost : (kept : Stored) (bytes : List ℕ) (device : ℕ) → kept ≡ Bytes bytes → is_lost (word_of kept device) ≡ false
 written-not_lost kept bytes device e = rw e (clean_lost (written bytes device) (syndrome_of-codeword (part bytes device)))
+
+-- ---- What a line was last written with
+
+zeros-bytes : IsBytes 64 zeros
+zeros-bytes = record { counted = refl; small = small-zeros 64 }
+
+pub zeros-part : (device : ℕ) → device < 4 → replicate 16 0 ≡ part zeros device
+zeros-part zero low = refl
+zeros-part (suc zero) low = refl
+zeros-part (suc (suc zero)) low = refl
+zeros-part (suc (suc (suc zero))) low = refl
+zeros-part (suc (suc (suc (suc device)))) low = absurd (omega (arith, low))
+
+bytes-cond : (b : Bool) (new old : List ℕ) → IsBytes 64 new → IsBytes 64 old → IsBytes 64 (cond b new old)
+bytes-cond true new old h k = h
+bytes-cond false new old h k = k
+
+pub last-bytes : (changes : List Change) (line : ℕ) → AreGiven changes → IsBytes 64 (last_written changes line)
+last-bytes [] line given = zeros-bytes
+last-bytes (wrote at bytes ∷ changes) line given = bytes-cond (line == at) bytes (last_written changes line) given.0 (last-bytes changes line given.1)
+last-bytes (turns at of bit ∷ changes) line given = last-bytes changes line given.1
+last-bytes (scrubs at ∷ changes) line given = last-bytes changes line given

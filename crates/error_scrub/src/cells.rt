@@ -45,8 +45,8 @@ impl Cells {
     /// The line becomes these bytes, whatever was stored before.
     pub fn write(&mut self, place: Place, bytes: &[u8; 64]) -> Result<(), OutOfMemory>
         requires { IsInside place (cells_shape self.old) }
-        ensures ok { OnOk result (ChangesLine self.old self.new (line_of place (cells_shape self.old)) (written bytes.now)) }
-        ensures err { OnErr result (IsUnchanged self.old self.new) }
+        ensures changes_one_line { OnOk result (ChangesLine self.old self.new (line_of place (cells_shape self.old)) (written bytes.now)) }
+        ensures unchanged { OnErr result (IsUnchanged self.old self.new) }
         ensures shape { cells_shape self.new ≡ cells_shape self.old }
     {
         let line = unmap(place, self.geometry).get();
@@ -73,9 +73,9 @@ impl Cells {
         requires place { IsInside place (cells_shape self.old) }
         requires device { device < 4 }
         requires bit { bit < 136 }
-        ensures ok { OnOk result
+        ensures changes_one_line { OnOk result
             (let line = line_of place (cells_shape self.old) in ChangesLine self.old self.new line (flipped self.old line device bit)) }
-        ensures err { OnErr result (IsUnchanged self.old self.new) }
+        ensures unchanged { OnErr result (IsUnchanged self.old self.new) }
         ensures shape { cells_shape self.new ≡ cells_shape self.old }
     {
         let line = unmap(place, self.geometry).get();
@@ -111,8 +111,8 @@ impl Cells {
     // This is kept of the line from now on.
     fn keep(&mut self, line: u32, stored: Stored) -> Result<(), OutOfMemory>
         requires { line < lines_of (cells_shape self.old) }
-        ensures ok { OnOk result (ChangesLine self.old self.new line (word_of stored)) }
-        ensures err { OnErr result (IsUnchanged self.old self.new) }
+        ensures changes_one_line { OnOk result (ChangesLine self.old self.new line (word_of stored)) }
+        ensures unchanged { OnErr result (IsUnchanged self.old self.new) }
         ensures shape { cells_shape self.new ≡ cells_shape self.old }
     {
         match self.kept.insert(line, stored) {

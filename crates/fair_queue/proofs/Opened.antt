@@ -6,6 +6,7 @@ use Rattle.ddr_io.specs.Line.{next_bytes}
 use Rattle.ddr_io.specs.Sink.{AppendsPrefix}
 use Rattle.ddr_io.specs.declared.status.Status.{Status}
 use Rattle.ddr_io.specs.declared.status.Status.TheVariants as status
+use Rattle.ddr_text.specs.Io.{io}
 use Rattle.ddr_text.specs.Opening.{Accepts, IsOpening, OpensAgain}
 use Rattle.ddr_text.specs.declared.opening.Opening.{Opening}
 use Rattle.ddr_text.specs.declared.opening.Opening.TheVariants.{Accepted, Refused, Failed}
@@ -75,14 +76,14 @@ reads-all : (cap : ℕ) (h : Header) (opening : List ℕ) (old next new : Option
 reads-all cap h opening None next new o r = tt
 reads-all cap h opening (Some all) next new (rest, is, next_is) r = subst (λ o. ReadsBehind cap o new) (sym is) (subst (λ n. ReadsEnough cap n new) next_is r)
 
-whole-answer : (cap : ℕ) (h : Header) (opening : List ℕ) (old next new before after : Option (List ℕ)) → IsOpening old next (Accepted h opening) → OpensAgain (Accepted h opening) → JobMerges cap opening next before after → ReadsEnough cap next new → MergeAnswers cap status.Ok old new before after
+whole-answer : (cap : ℕ) (h : Header) (opening : List ℕ) (old next new before after : Option (List ℕ)) → IsOpening old next (Accepted h opening) → OpensAgain (Accepted h opening) → JobMerges cap opening next before after → ReadsEnough cap next new → MergeAnswers cap status.Ok (io old new before after)
 whole-answer cap h opening old next new before after o again (bytes, tells, w) r =
     ((record { text = opening ++ merged_behind cap bytes; status = status.Ok }, is-merged cap h opening old next bytes o again tells, refl, w), reads-all cap h opening old next new o r)
 
 cut-answer : (cap : ℕ) (h : Header) (opening : List ℕ) (old next before after : Option (List ℕ)) → IsOpening old next (Accepted h opening) → OpensAgain (Accepted h opening) → JobBeginsToMerge cap opening next before after → (it : Outcome) × IsMerged cap old it × AppendsPrefix before after it.text
 cut-answer cap h opening old next before after o again (bytes, tells, w) = (record { text = opening ++ merged_behind cap bytes; status = status.Ok }, is-merged cap h opening old next bytes o again tells, w)
 
-pub accepted-answer : (cap : ℕ) (h : Header) (opening : List ℕ) (answer : Status) (old next new before after : Option (List ℕ)) → IsOpening old next (Accepted h opening) → OpensAgain (Accepted h opening) → BehindAnswers cap opening next answer new before after → MergeAnswers cap answer old new before after
+pub accepted-answer : (cap : ℕ) (h : Header) (opening : List ℕ) (answer : Status) (old next new before after : Option (List ℕ)) → IsOpening old next (Accepted h opening) → OpensAgain (Accepted h opening) → BehindAnswers cap opening next answer new before after → MergeAnswers cap answer (io old new before after)
 accepted-answer cap h opening status.Ok old next new before after o again b = whole-answer cap h opening old next new before after o again b.0 b.1
 accepted-answer cap h opening status.ReadFault old next new before after o again b = cut-answer cap h opening old next before after o again b
 accepted-answer cap h opening status.WriteFault old next new before after o again b = cut-answer cap h opening old next before after o again b
@@ -96,7 +97,7 @@ refused-outcome : (cap reason : ℕ) (old next : Option (List ℕ)) → IsOpenin
 refused-outcome cap reason None next o = inr (reason, refl)
 refused-outcome cap reason (Some bytes) next o = ap (merged_in cap) o
 
-pub refused-answer : (cap reason : ℕ) (answer : Status) (old next new before after : Option (List ℕ)) → IsOpening old next (Refused reason) → RefusesLine answer 0 reason before after → MergeAnswers cap answer old new before after
+pub refused-answer : (cap reason : ℕ) (answer : Status) (old next new before after : Option (List ℕ)) → IsOpening old next (Refused reason) → RefusesLine answer 0 reason before after → MergeAnswers cap answer (io old new before after)
 refused-answer cap reason status.Refused old next new before after o w = (refused_opening reason, refused-outcome cap reason old next o, refl, w)
 refused-answer cap reason status.WriteFault old next new before after o w = (refused_opening reason, refused-outcome cap reason old next o, w)
 refused-answer cap reason status.OutOfMemory old next new before after o w = (refused_opening reason, refused-outcome cap reason old next o, w)

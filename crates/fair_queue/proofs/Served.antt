@@ -4,6 +4,7 @@ use Rattle.std.specs.Io.KnownBytes.{Appends}
 use Rattle.command_words.specs.Geometry.{Shape}
 use Rattle.ddr_io.specs.declared.status.Status.{Status}
 use Rattle.ddr_io.specs.declared.status.Status.TheVariants as status
+use Rattle.ddr_text.specs.Io.{io}
 use Rattle.ddr_text.specs.Opening.{Accepts, Opens, Refuses, opening_of}
 use Rattle.ddr_text.specs.Outcome.{Outcome, RefusesLine, refused_opening}
 use Rattle.ddr_text.specs.declared.lines.TraceLine.{TraceLine}
@@ -94,7 +95,7 @@ serves-of laws cap one old h text trace refused before after (bytes, tells, job)
 -- ---- The answer
 
 of-job : Laws → (cap : ℕ) → 1 ≤ cap → (answer : Status) (old new : Option (List ℕ)) (h : Header) (text : List ℕ) (trace : List TraceLine) (refused : Option ℕ) (left left_after before after : Option (List ℕ)) → ReadsInput cap old new → IsPortsJob cap old h text trace refused
-    → JobAnswers answer h text trace refused left left_after before after → PortsAnswers cap answer old new before after
+    → JobAnswers answer h text trace refused left left_after before after → PortsAnswers cap answer (io old new before after)
 of-job laws cap one status.Ok old new h text trace None left left_after before after read j (none, used, r) = ((h, text, trace, j, serves-of laws cap one old h text trace None before after j r), read)
 of-job laws cap one status.Ok old new h text trace (Some reason) left left_after before after read j (none, used, r) = cc
 of-job laws cap one status.Refused old new h text trace refused left left_after before after read j (some, r) = inl ((h, text, trace, refused, j, some, serves-of laws cap one old h text trace refused before after j r), read)
@@ -104,7 +105,7 @@ of-job laws cap one status.ReadFault old new h text trace refused left left_afte
 of-job laws cap one status.Usage old new h text trace refused left left_after before after read j s = absurd s
 of-job laws cap one status.Broken old new h text trace refused left left_after before after read j s = absurd s
 
-of-part : (cap : ℕ) (answer : Status) (old new : Option (List ℕ)) (h : Header) (text : List ℕ) (trace : List TraceLine) (before after : Option (List ℕ)) → answer ≢ status.ReadFault → PartAnswers answer h text trace before after → PortsAnswers cap answer old new before after
+of-part : (cap : ℕ) (answer : Status) (old new : Option (List ℕ)) (h : Header) (text : List ℕ) (trace : List TraceLine) (before after : Option (List ℕ)) → answer ≢ status.ReadFault → PartAnswers answer h text trace before after → PortsAnswers cap answer (io old new before after)
 of-part cap status.ReadFault old new h text trace before after other p = absurd (other refl)
 of-part cap status.Ok old new h text trace before after other p = absurd p
 of-part cap status.Refused old new h text trace before after other p = absurd p
@@ -113,7 +114,7 @@ of-part cap status.OutOfMemory old new h text trace before after other p = absur
 of-part cap status.Usage old new h text trace before after other p = absurd p
 of-part cap status.Broken old new h text trace before after other p = absurd p
 
-of-opening : (cap : ℕ) (answer : Status) (old new : Option (List ℕ)) (reason : ℕ) (before after : Option (List ℕ)) → IsUnmerged old reason → RefusesLine answer 0 reason before after → PortsAnswers cap answer old new before after
+of-opening : (cap : ℕ) (answer : Status) (old new : Option (List ℕ)) (reason : ℕ) (before after : Option (List ℕ)) → IsUnmerged old reason → RefusesLine answer 0 reason before after → PortsAnswers cap answer (io old new before after)
 of-opening cap status.Refused old new reason before after u o = inr (reason, u, o)
 of-opening cap status.WriteFault old new reason before after u o = inr (reason, u, o)
 of-opening cap status.OutOfMemory old new reason before after u o = inr (inl (reason, u, o))
@@ -122,7 +123,7 @@ of-opening cap status.ReadFault old new reason before after u o = absurd o
 of-opening cap status.Usage old new reason before after u o = absurd o
 of-opening cap status.Broken old new reason before after u o = absurd o
 
-of-stop : (cap : ℕ) (answer : Status) (old new left left_after before after : Option (List ℕ)) → answer ≢ status.ReadFault → StopAnswers answer left left_after before after → PortsAnswers cap answer old new before after
+of-stop : (cap : ℕ) (answer : Status) (old new left left_after before after : Option (List ℕ)) → answer ≢ status.ReadFault → StopAnswers answer left left_after before after → PortsAnswers cap answer (io old new before after)
 of-stop cap status.ReadFault old new left left_after before after other s = absurd (other refl)
 of-stop cap status.OutOfMemory old new left left_after before after other s = inr (inr s)
 of-stop cap status.Ok old new left left_after before after other s = absurd s
@@ -132,7 +133,7 @@ of-stop cap status.Usage old new left left_after before after other s = absurd s
 of-stop cap status.Broken old new left left_after before after other s = absurd s
 
 served-of : Laws → (cap : ℕ) → 1 ≤ cap → (answer : Status) (old new : Option (List ℕ)) (it : Outcome) (job : List ℕ) (left before after : Option (List ℕ)) → IsMerged cap old it → it.status ≡ status.Ok → job ≡ it.text → ReadsInput cap old new → answer ≢ status.ReadFault
-    → Answers answer (Some job) left before after → PortsAnswers cap answer old new before after
+    → Answers answer (io (Some job) left before after) → PortsAnswers cap answer (io old new before after)
 served-of laws cap one answer old new it job left before after is fine same read other (inl (h, text, trace, refused, j, inside, a)) =
     of-job laws cap one answer old new h text trace refused (Some job) left before after read (job-of laws cap old it job is fine same h text trace refused j) a
 served-of laws cap one answer old new it job left before after is fine same read other (inr (inl (h, text, trace, j, inside, a))) = of-part cap answer old new h text trace before after other a
@@ -141,7 +142,7 @@ served-of laws cap one answer old new it job left before after is fine same read
 
 -- the answer of a replay of what a merge wrote
 pub served : Laws → (cap : ℕ) → 1 ≤ cap → (answer : Status) (old new : Option (List ℕ)) (first job other : List ℕ) (before after : Option (List ℕ)) → first ≡ [] → other ≡ job → (((it : Outcome) × IsMerged cap old it × (status.Ok ≡ it.status) × Appends (Some first) (Some job) it.text) × ReadsInput cap old new)
-    → answer ≢ status.ReadFault → ((left : Option (List ℕ)) × Answers answer (Some other) left before after) → PortsAnswers cap answer old new before after
+    → answer ≢ status.ReadFault → ((left : Option (List ℕ)) × Answers answer (io (Some other) left before after)) → PortsAnswers cap answer (io old new before after)
 served laws cap one answer old new first job other before after begun same ((it, is, fine, wrote), read) none (left, a) =
     served-of laws cap one answer old new it other left before after is (sym fine) (same ∙ wrote ∙ ap (λ l. l ++ it.text) begun) read none a
 
@@ -159,7 +160,7 @@ refused-of cap None it (inl (bytes, is)) e = let r = refused-known cap bytes it 
 refused-of cap None it (inr (reason, is)) e = (reason, tt, ap (λ (k : Outcome). k.text) is)
 refused-of cap (Some bytes) it is e = refused-known cap bytes it is e
 
-of-refusal : (cap : ℕ) (answer : Status) (old new : Option (List ℕ)) (reason : ℕ) (before after : Option (List ℕ)) → IsUnmerged old reason → RefusalAnswers answer (refused_opening reason).text before after → PortsAnswers cap answer old new before after
+of-refusal : (cap : ℕ) (answer : Status) (old new : Option (List ℕ)) (reason : ℕ) (before after : Option (List ℕ)) → IsUnmerged old reason → RefusalAnswers answer (refused_opening reason).text before after → PortsAnswers cap answer (io old new before after)
 of-refusal cap status.Refused old new reason before after u o = inr (reason, u, o)
 of-refusal cap status.WriteFault old new reason before after u o = inr (reason, u, o)
 of-refusal cap status.OutOfMemory old new reason before after u o = inr (inl (reason, u, o))
@@ -170,7 +171,7 @@ of-refusal cap status.Broken old new reason before after u o = absurd o
 
 -- the answer where a merge wrote an X line
 pub refused : (cap : ℕ) (answer : Status) (old new : Option (List ℕ)) (first job line : List ℕ) (before after : Option (List ℕ)) → first ≡ [] → line ≡ job → ((it : Outcome) × IsMerged cap old it × (status.Refused ≡ it.status) × Appends (Some first) (Some job) it.text)
-    → RefusalAnswers answer line before after → PortsAnswers cap answer old new before after
+    → RefusalAnswers answer line before after → PortsAnswers cap answer (io old new before after)
 refused cap answer old new first job line before after begun same (it, is, fine, wrote) a =
     let (reason, u, text) = refused-of cap old it is (sym fine) in
     of-refusal cap answer old new reason before after u (subst (λ l. RefusalAnswers answer l before after) (same ∙ wrote ∙ ap (λ l. l ++ it.text) begun ∙ text) a)

@@ -5,6 +5,7 @@ use Rattle.std.specs.Io.KnownBytes.{Appends}
 use Rattle.ddr_io.specs.Sink.{AppendsPrefix}
 use Rattle.ddr_io.specs.declared.status.Status.{Status}
 use Rattle.ddr_io.specs.declared.status.Status.TheVariants as status
+use Rattle.ddr_text.specs.Io.{Io}
 use Rattle.ddr_text.specs.Opening.{Opens, Accepts, Refuses, opening_of}
 use Rattle.ddr_text.specs.Outcome.{Outcome, BeginsAs, EndsAs, refused_opening}
 use Rattle.fair_queue.specs.Merged.{merged_behind}
@@ -38,14 +39,14 @@ ReadsInput cap (Some bytes) left = ReadsBehind cap (opening_of bytes) left
 
 -- ---- The answer
 
-abbrev pub MergeAnswers : ℕ → Status → Option (List ℕ) → Option (List ℕ) → Option (List ℕ) → Option (List ℕ) → Type 0
-MergeAnswers cap status.Ok old new before after = EndsAs (IsMerged cap old) status.Ok before after × ReadsInput cap old new
-MergeAnswers cap status.Refused old new before after = EndsAs (IsMerged cap old) status.Refused before after
-MergeAnswers cap status.ReadFault old new before after = BeginsAs (IsMerged cap old) before after
-MergeAnswers cap status.WriteFault old new before after = BeginsAs (IsMerged cap old) before after
-MergeAnswers cap status.OutOfMemory old new before after = BeginsAs (IsMerged cap old) before after
-MergeAnswers cap status.Broken old new before after = ⊥
-MergeAnswers cap status.Usage old new before after = ⊥
+abbrev pub MergeAnswers : ℕ → Status → Io → Type 0
+MergeAnswers cap status.Ok io = EndsAs (IsMerged cap io.had) status.Ok io.written_before io.written_after × ReadsInput cap io.had io.left
+MergeAnswers cap status.Refused io = EndsAs (IsMerged cap io.had) status.Refused io.written_before io.written_after
+MergeAnswers cap status.ReadFault io = BeginsAs (IsMerged cap io.had) io.written_before io.written_after
+MergeAnswers cap status.WriteFault io = BeginsAs (IsMerged cap io.had) io.written_before io.written_after
+MergeAnswers cap status.OutOfMemory io = BeginsAs (IsMerged cap io.had) io.written_before io.written_after
+MergeAnswers cap status.Broken io = ⊥
+MergeAnswers cap status.Usage io = ⊥
 
 -- ---- Its parts
 

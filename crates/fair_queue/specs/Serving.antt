@@ -6,6 +6,7 @@ use Rattle.std.specs.Io.KnownBytes.{Appends, Keeps}
 use Rattle.ddr_io.specs.Sink.{AppendsPrefix}
 use Rattle.ddr_io.specs.declared.status.Status.{Status}
 use Rattle.ddr_io.specs.declared.status.Status.TheVariants as status
+use Rattle.ddr_text.specs.Io.{Io}
 use Rattle.ddr_text.specs.Opening.{Accepts, Refuses, opening_of}
 use Rattle.ddr_text.specs.Outcome.{refused_opening}
 use Rattle.ddr_text.specs.Spelling.{spelled}
@@ -57,20 +58,20 @@ pub record Serves (cap : ℕ) (h : Header) (text : List ℕ) (trace : List Trace
 
 -- ---- The answer
 
-abbrev pub PortsAnswers : ℕ → Status → Option (List ℕ) → Option (List ℕ) → Option (List ℕ) → Option (List ℕ) → Type 0
-PortsAnswers cap status.Ok old new before after =
-    ((h : Header) × (text : List ℕ) × (trace : List TraceLine) × IsPortsJob cap old h text trace None × Serves cap h text trace None before after) × ReadsInput cap old new
-PortsAnswers cap status.Refused old new before after =
-    (((h : Header) × (text : List ℕ) × (trace : List TraceLine) × (refused : Option ℕ) × IsPortsJob cap old h text trace refused × IsSome refused × Serves cap h text trace refused before after) × ReadsInput cap old new)
-    ⊎ ((reason : ℕ) × IsUnmerged old reason × Appends before after (refused_opening reason).text)
-PortsAnswers cap status.WriteFault old new before after =
-    ((h : Header) × (text : List ℕ) × (trace : List TraceLine) × (refused : Option ℕ) × IsPortsJob cap old h text trace refused × Starts h text trace refused before after)
-    ⊎ ((reason : ℕ) × IsUnmerged old reason × AppendsPrefix before after (refused_opening reason).text)
-PortsAnswers cap status.OutOfMemory old new before after =
-    ((h : Header) × (text : List ℕ) × (trace : List TraceLine) × (refused : Option ℕ) × IsPortsJob cap old h text trace refused × Starts h text trace refused before after)
-    ⊎ (((reason : ℕ) × IsUnmerged old reason × AppendsPrefix before after (refused_opening reason).text)
-    ⊎ Keeps before after)
+abbrev pub PortsAnswers : ℕ → Status → Io → Type 0
+PortsAnswers cap status.Ok io =
+    ((h : Header) × (text : List ℕ) × (trace : List TraceLine) × IsPortsJob cap io.had h text trace None × Serves cap h text trace None io.written_before io.written_after) × ReadsInput cap io.had io.left
+PortsAnswers cap status.Refused io =
+    (((h : Header) × (text : List ℕ) × (trace : List TraceLine) × (refused : Option ℕ) × IsPortsJob cap io.had h text trace refused × IsSome refused × Serves cap h text trace refused io.written_before io.written_after) × ReadsInput cap io.had io.left)
+    ⊎ ((reason : ℕ) × IsUnmerged io.had reason × Appends io.written_before io.written_after (refused_opening reason).text)
+PortsAnswers cap status.WriteFault io =
+    ((h : Header) × (text : List ℕ) × (trace : List TraceLine) × (refused : Option ℕ) × IsPortsJob cap io.had h text trace refused × Starts h text trace refused io.written_before io.written_after)
+    ⊎ ((reason : ℕ) × IsUnmerged io.had reason × AppendsPrefix io.written_before io.written_after (refused_opening reason).text)
+PortsAnswers cap status.OutOfMemory io =
+    ((h : Header) × (text : List ℕ) × (trace : List TraceLine) × (refused : Option ℕ) × IsPortsJob cap io.had h text trace refused × Starts h text trace refused io.written_before io.written_after)
+    ⊎ (((reason : ℕ) × IsUnmerged io.had reason × AppendsPrefix io.written_before io.written_after (refused_opening reason).text)
+    ⊎ Keeps io.written_before io.written_after)
 -- nothing was written
-PortsAnswers cap status.ReadFault old new before after = Keeps before after
-PortsAnswers cap status.Broken old new before after = ⊥
-PortsAnswers cap status.Usage old new before after = ⊥
+PortsAnswers cap status.ReadFault io = Keeps io.written_before io.written_after
+PortsAnswers cap status.Broken io = ⊥
+PortsAnswers cap status.Usage io = ⊥

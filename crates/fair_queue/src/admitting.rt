@@ -24,8 +24,8 @@ pub(crate) fn merge_lines<S: Source, K: Sink>(
     requires lines { lines.old ≡ record { reader = lines.old.reader; number = 1; ahead = Ahead.Unknown } }
     ensures whole { OnOk result (Merges cap (unread lines.old (S.left source.old)) (K.written sink.old) (K.written sink.new)) }
     ensures used_up { OnOk result (ReadsEnough cap (unread lines.old (S.left source.old)) (S.left source.new)) }
-    ensures cut { IfErr result (λ stop. BeginsToMerge cap (unread lines.old (S.left source.old)) (K.written sink.old) (K.written sink.new)) }
-    ensures kept { OnOk result ((S.faults source.new ≡ S.faults source.old) × (K.faults sink.new ≡ K.faults sink.old)) }
+    ensures begins_to_merge { IfErr result (λ stop. BeginsToMerge cap (unread lines.old (S.left source.old)) (K.written sink.old) (K.written sink.new)) }
+    ensures faults_kept { OnOk result ((S.faults source.new ≡ S.faults source.old) × (K.faults sink.new ≡ K.faults sink.old)) }
     ensures cause { IfErr result (StopCause (S.faults source.old) (S.faults source.new) (K.faults sink.old) (K.faults sink.new)) }
 {
     let mut count = 0;
@@ -47,7 +47,7 @@ fn fill<S: Source>(queues: &mut Queues, lines: &mut PortLines, source: &mut S) -
     ensures queues { OnOk result (AreKept queues.old queues.new) }
     ensures steady { OnOk result (IsSteady queues.old lines.old queues.new lines.new) }
     ensures few { OnOk result (lines.new.number ≤ 1048577) }
-    ensures kept { OnOk result (S.faults source.new ≡ S.faults source.old) }
+    ensures faults_kept { OnOk result (S.faults source.new ≡ S.faults source.old) }
     ensures cause { IfErr result (ReadCause (S.faults source.old) (S.faults source.new)) }
 {
     'filling: loop {

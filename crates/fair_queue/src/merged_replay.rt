@@ -19,7 +19,7 @@ use trace_replay::replay;
 #[inline(never)]
 pub fn ports<S: Source, K: Sink>(alloc: Global, cap: u32, source: &mut S, sink: &mut K) -> Status
     requires { (1 ≤ cap) × (cap ≤ 32) }
-    ensures answer { PortsAnswers cap result (S.left source.old) (S.left source.new) (K.written sink.old) (K.written sink.new) }
+    ensures answer { PortsAnswers cap result (record { had = S.left source.old; left = S.left source.new; written_before = K.written sink.old; written_after = K.written sink.new }) }
     ensures usage { result ≢ Status.Usage }
     ensures broken { result ≢ Status.Broken }
 
@@ -51,7 +51,7 @@ pub fn ports<S: Source, K: Sink>(alloc: Global, cap: u32, source: &mut S, sink: 
 
 // Replays a job that is in memory.
 fn replay_bytes<K: Sink>(alloc: Global, job: Vec<u8>, sink: &mut K) -> Status
-    ensures answer { (left : Option (List ℕ)) × Answers result (Some job.items) left (K.written sink.old) (K.written sink.new) }
+    ensures answer { (left : Option (List ℕ)) × Answers result (record { had = Some job.items; left = left; written_before = K.written sink.old; written_after = K.written sink.new }) }
     ensures usage { result ≢ Status.Usage }
     ensures broken { result ≢ Status.Broken }
     ensures read { result ≢ Status.ReadFault }

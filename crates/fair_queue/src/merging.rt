@@ -24,7 +24,7 @@ use std::alloc::Global;
 #[inline(never)]
 pub fn merge<S: Source, K: Sink>(alloc: Global, cap: u32, source: &mut S, sink: &mut K) -> Status
     requires { (1 ≤ cap) × (cap ≤ 32) }
-    ensures answer { MergeAnswers cap result (S.left source.old) (S.left source.new) (K.written sink.old) (K.written sink.new) }
+    ensures answer { MergeAnswers cap result (record { had = S.left source.old; left = S.left source.new; written_before = K.written sink.old; written_after = K.written sink.new }) }
     ensures usage { result ≢ Status.Usage }
     ensures broken { result ≢ Status.Broken }
 
@@ -86,8 +86,8 @@ fn merge_job<S: Source, K: Sink>(
     requires going_on { reader.last ≡ Line.Text }
     ensures whole { OnOk result (JobMerges cap text.now (next_bytes reader.held (S.left source.old)) (K.written sink.old) (K.written sink.new)) }
     ensures used_up { OnOk result (ReadsEnough cap (next_bytes reader.held (S.left source.old)) (S.left source.new)) }
-    ensures cut { IfErr result (λ stop. JobBeginsToMerge cap text.now (next_bytes reader.held (S.left source.old)) (K.written sink.old) (K.written sink.new)) }
-    ensures kept { OnOk result ((S.faults source.new ≡ S.faults source.old) × (K.faults sink.new ≡ K.faults sink.old)) }
+    ensures begins_to_merge { IfErr result (λ stop. JobBeginsToMerge cap text.now (next_bytes reader.held (S.left source.old)) (K.written sink.old) (K.written sink.new)) }
+    ensures faults_kept { OnOk result ((S.faults source.new ≡ S.faults source.old) × (K.faults sink.new ≡ K.faults sink.old)) }
     ensures cause { IfErr result (StopCause (S.faults source.old) (S.faults source.new) (K.faults sink.old) (K.faults sink.new)) }
 {
     let mut queues = new_queues(alloc)?;

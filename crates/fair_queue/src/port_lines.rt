@@ -65,7 +65,7 @@ impl PortLines {
         ensures steady { OnOk result (self.new.number + waiting self.old.ahead ≡ self.old.number + waiting self.new.ahead) }
         ensures few { OnOk result (self.new.number ≤ 1048577) }
         ensures ended { OnOk result (EndsAt (unread self.old (S.left source.old)) self.old.ahead (unread self.old (S.left source.old)) → EndsAt (unread self.old (S.left source.old)) self.new.ahead (unread self.new (S.left source.new))) }
-        ensures kept { OnOk result (S.faults source.new ≡ S.faults source.old) }
+        ensures faults_kept { OnOk result (S.faults source.new ≡ S.faults source.old) }
         ensures cause { IfErr result (ReadCause (S.faults source.old) (S.faults source.new)) }
     {
         match self.ahead() {
@@ -133,7 +133,7 @@ impl PortLines {
         ensures known { OnOk result (IsKnown self.new.ahead) }
         ensures steady { OnOk result (self.new.number ≡ self.old.number + waiting self.new.ahead) }
         ensures ended { OnOk result (EndsAt (unread self.old (S.left source.old)) self.new.ahead (unread self.new (S.left source.new))) }
-        ensures kept { OnOk result (S.faults source.new ≡ S.faults source.old) }
+        ensures faults_kept { OnOk result (S.faults source.new ≡ S.faults source.old) }
         ensures cause { IfErr result (ReadCause (S.faults source.old) (S.faults source.new)) }
     {
         ddr_text::laws::lines_are_parts();

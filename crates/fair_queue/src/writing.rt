@@ -24,9 +24,9 @@ pub(crate) fn put_rest<K: Sink>(
     requires few { count < 2 ^ 32 }
     ensures count { IfOk result (λ n. n ≡ one_more (is_request rest.now) count) }
     ensures whole { OnOk result (Appends (K.written sink.old) (K.written sink.new) (flat_map with_feed (barriers cap count rest.now ++ rest.now ∷ []))) }
-    ensures cut { IfErr result (λ stop. AppendsPrefix (K.written sink.old) (K.written sink.new) (flat_map with_feed (barriers cap count rest.now ++ rest.now ∷ []))) }
-    ensures later { K.faults sink.old ≤ K.faults sink.new }
-    ensures kept { OnOk result (K.faults sink.new ≡ K.faults sink.old) }
+    ensures writes_a_prefix { IfErr result (λ stop. AppendsPrefix (K.written sink.old) (K.written sink.new) (flat_map with_feed (barriers cap count rest.now ++ rest.now ∷ []))) }
+    ensures faults_never_fall { K.faults sink.old ≤ K.faults sink.new }
+    ensures faults_kept { OnOk result (K.faults sink.new ≡ K.faults sink.old) }
     ensures cause { IfErr result (WriteCause (K.faults sink.old) (K.faults sink.new)) }
 {
     let asks = is_request(rest.bytes());
@@ -38,9 +38,9 @@ pub(crate) fn put_rest<K: Sink>(
 /// Writes the empty line that stands for a bad line.
 pub(crate) fn put_ending<K: Sink>(is_bad: bool, sink: &mut K) -> Result<(), Stop>
     ensures whole { OnOk result (Appends (K.written sink.old) (K.written sink.new) (ending is_bad)) }
-    ensures cut { IfErr result (λ stop. AppendsPrefix (K.written sink.old) (K.written sink.new) (ending is_bad)) }
-    ensures later { K.faults sink.old ≤ K.faults sink.new }
-    ensures kept { OnOk result (K.faults sink.new ≡ K.faults sink.old) }
+    ensures writes_a_prefix { IfErr result (λ stop. AppendsPrefix (K.written sink.old) (K.written sink.new) (ending is_bad)) }
+    ensures faults_never_fall { K.faults sink.old ≤ K.faults sink.new }
+    ensures faults_kept { OnOk result (K.faults sink.new ≡ K.faults sink.old) }
     ensures cause { IfErr result (WriteCause (K.faults sink.old) (K.faults sink.new)) }
 {
     if is_bad {
@@ -60,9 +60,9 @@ fn is_barred(cap: u32, count: u64, asks: bool) -> bool
 // Writes a barrier, where one is due.
 fn put_barrier<K: Sink>(due: bool, sink: &mut K) -> Result<(), Stop>
     ensures whole { OnOk result (Appends (K.written sink.old) (K.written sink.new) (flat_map with_feed (if due then barrier ∷ [] else []))) }
-    ensures cut { IfErr result (λ stop. AppendsPrefix (K.written sink.old) (K.written sink.new) (flat_map with_feed (if due then barrier ∷ [] else []))) }
-    ensures later { K.faults sink.old ≤ K.faults sink.new }
-    ensures kept { OnOk result (K.faults sink.new ≡ K.faults sink.old) }
+    ensures writes_a_prefix { IfErr result (λ stop. AppendsPrefix (K.written sink.old) (K.written sink.new) (flat_map with_feed (if due then barrier ∷ [] else []))) }
+    ensures faults_never_fall { K.faults sink.old ≤ K.faults sink.new }
+    ensures faults_kept { OnOk result (K.faults sink.new ≡ K.faults sink.old) }
     ensures cause { IfErr result (WriteCause (K.faults sink.old) (K.faults sink.new)) }
 {
     if due {
@@ -93,9 +93,9 @@ fn is_due(cap: u32, count: u64) -> bool
 fn put_with_feed<K: Sink>(line: &[u8], sink: &mut K) -> Result<(), Stop>
     requires { length line.now < 512 }
     ensures whole { OnOk result (Appends (K.written sink.old) (K.written sink.new) (with_feed line.now)) }
-    ensures cut { IfErr result (λ stop. AppendsPrefix (K.written sink.old) (K.written sink.new) (with_feed line.now)) }
-    ensures later { K.faults sink.old ≤ K.faults sink.new }
-    ensures kept { OnOk result (K.faults sink.new ≡ K.faults sink.old) }
+    ensures writes_a_prefix { IfErr result (λ stop. AppendsPrefix (K.written sink.old) (K.written sink.new) (with_feed line.now)) }
+    ensures faults_never_fall { K.faults sink.old ≤ K.faults sink.new }
+    ensures faults_kept { OnOk result (K.faults sink.new ≡ K.faults sink.old) }
     ensures cause { IfErr result (WriteCause (K.faults sink.old) (K.faults sink.new)) }
 {
     let mut piece: ArrayVec<u8, 512> = ArrayVec::new();

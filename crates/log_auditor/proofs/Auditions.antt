@@ -1,22 +1,21 @@
 -- One line more of an audit.
-use Rattle.std.proofs.Common.{◌≡◌, ◌∙◌, ℕ, suc, ◌+◌, Bool, true, false, Option, Some, None, List, [], ◌∷◌, ◌++◌, length, length-append, refl, sym, ap, subst, arith}
+use Rattle.std.proofs.Common.{◌≡◌, ◌∙◌, ℕ, suc, ◌+◌, true, false, Option, Some, None, List, [], ◌∷◌, ◌++◌, length, length-append, refl, sym, ap, subst, arith}
 use Rattle.ddr_text.specs.declared.lines.ReportLine.{ReportLine}
 use Rattle.ddr_text.specs.declared.lines.ReportLine.TheVariants.{Issued, Value, Flip, Stat, End, Refused as RefusedLine}
-use Rattle.speed_bin.specs.Rules.{broken, broken_at_end, verdict, verdict_after, verdict_at_end}
+use Rattle.speed_bin.specs.Rules.{broken, broken_at_end, verdict, verdict_after}
 use Rattle.speed_bin.specs.declared.header.Header.{Header}
 use Rattle.log_auditor.specs.Auditing.{StandsFor, Taken, told}
 use Rattle.log_auditor.specs.Findings.{breach_at, breach_of, end_of, fine_or, is_fine, is_place, log_of, numbers_from, on_line}
-use Rattle.log_auditor.specs.Progress.{Audited}
+use Rattle.log_auditor.specs.AuditSoFar.{Audited}
 use Rattle.ddr_text.specs.ReportReading.{is_whole, stage_after}
 use Rattle.log_auditor.specs.declared.auditor.Auditor.{Auditor}
 use Rattle.log_auditor.specs.declared.finding.Finding.{Finding}
 use Rattle.log_auditor.specs.declared.finding.Finding.TheVariants.{Fine, Broken, Refused}
 use Rattle.ddr_text.specs.declared.report_reader.Stage.{Stage}
 use Rattle.ddr_text.specs.declared.report_reader.Stage.TheVariants.{Body, Counts, Ended, Closed}
-use Rattle.log_auditor.specs.declared.verdict.Rule.{Rule}
 use Rattle.log_auditor.specs.declared.verdict.Verdict.{Verdict}
 use Rattle.log_auditor.specs.declared.verdict.Verdict.TheVariants.{Fine as FineVerdict, Breaks}
-use Rattle.log_auditor.proofs.Lines.{breach_issued, breach_ended, breach_other, end_other, later, log_issued, log_other, no_end}
+use Rattle.log_auditor.proofs.Lines.{breach_issued, breach_ended, breach_other, end_other, later, log_issued, log_other}
 
 -- ---- Stages
 

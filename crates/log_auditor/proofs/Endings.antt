@@ -1,15 +1,15 @@
 -- How an audit ends, by the bytes.
-use Rattle.std.proofs.Common.{◌≡◌, ◌∙◌, ◌<◌, ℕ, Option, Some, None, List, [], ◌∷◌, Result, Ok, Err, IfOk, ◌++◌, length, take, refl, sym, ap, subst, arith}
+use Rattle.std.proofs.Common.{◌≡◌, ◌∙◌, ℕ, Option, Some, None, List, [], Result, Ok, Err, IfOk, refl, sym, ap, subst}
 use Rattle.std.specs.Io.KnownBytes.{Appends}
 use Rattle.ddr_io.specs.Faults.{Rose}
 use Rattle.ddr_io.specs.Line.{next_bytes}
 use Rattle.ddr_io.specs.Sink.{AppendsPrefix}
 use Rattle.ddr_io.specs.declared.status.Status.{Status}
 use Rattle.ddr_io.specs.declared.status.Status.TheVariants as status
-use Rattle.ddr_text.specs.Opening.{IsOpening, Accepts, Refuses, opening_of, parts_of}
+use Rattle.ddr_text.specs.Io.{io}
+use Rattle.ddr_text.specs.Opening.{IsOpening, opening_of}
 use Rattle.ddr_text.specs.Outcome.{ReadsAll}
 use Rattle.ddr_text.specs.Stop.{ReadCause, WriteCause, status_of as status_of_stop}
-use Rattle.ddr_text.specs.ReportParts.{Refusal}
 use Rattle.ddr_text.specs.declared.lines.ReportLine.{ReportLine}
 use Rattle.ddr_text.specs.declared.opening.Opening.TheVariants.{Accepted, Refused as RefusedOpening}
 use Rattle.ddr_text.specs.declared.stop.Stop.{Stop}
@@ -20,13 +20,11 @@ use Rattle.ddr_text.proofs.Prefixes.{no-prefix}
 use Rattle.speed_bin.specs.declared.header.Header.{Header}
 use Rattle.speed_bin.specs.Header.{shape_of}
 use Rattle.log_auditor.specs.Findings.{Answers, Finds, breach_of, fine_or, finding_text, found_behind, found_in, refused_or, status_of}
-use Rattle.log_auditor.specs.Progress.{Audited, FindsBehind, IsWritten, Reads, ReadsAllOf}
-use Rattle.ddr_text.specs.ReportReading.{IsStep, LeftOf, Lines, Place, lines_behind, lines_in, lines_left, refusal_at, with_line, with_lines}
-use Rattle.log_auditor.specs.declared.auditor.Auditor.{Auditor}
+use Rattle.log_auditor.specs.AuditSoFar.{FindsBehind, IsWritten, ReadsAllOf}
+use Rattle.ddr_text.specs.ReportReading.{IsStep, LeftOf, Place, lines_behind, refusal_at, with_lines}
 use Rattle.log_auditor.specs.declared.finding.Finding.{Finding}
 use Rattle.log_auditor.specs.declared.finding.Finding.TheVariants.{Fine, Broken, Refused}
-use Rattle.ddr_text.specs.declared.report_reader.Next.TheVariants.{Line, End, Refused as RefusedNext, Failed}
-use Rattle.ddr_text.specs.declared.report_reader.Stage.TheVariants.{Body}
+use Rattle.ddr_text.specs.declared.report_reader.Next.TheVariants.{End, Refused as RefusedNext}
 
 -- ---- Lines behind an opening
 
@@ -91,7 +89,7 @@ no_usage Fine e = cc
 no_usage (Broken line rule) e = cc
 no_usage (Refused line reason) e = cc
 
-answered : (answer : Status) (finding : Finding) (old new before after : Option (List ℕ)) → Finds old finding → ReadsAllOf old new finding → IsWritten answer finding before after → Answers answer old new before after
+answered : (answer : Status) (finding : Finding) (old new before after : Option (List ℕ)) → Finds old finding → ReadsAllOf old new finding → IsWritten answer finding before after → Answers answer (io old new before after)
 answered status.Ok Fine old new before after found all written = ((Fine, found, refl, written.1), all)
 answered status.Ok (Broken line rule) old new before after found all written = absurd (let no = written.0 in cc)
 answered status.Ok (Refused line reason) old new before after found all written = absurd (let no = written.0 in cc)
@@ -106,7 +104,7 @@ answered status.WriteFault finding old new before after found all written = (fin
 answered status.OutOfMemory finding old new before after found all written = (finding, found, written)
 answered status.Usage finding old new before after found all written = absurd (no_usage finding written.0)
 
-pub answers_found : (answer : Status) (finding : Finding) (old new before after : Option (List ℕ)) → Finds old finding → ReadsAllOf old new finding → IsWritten answer finding before after → Answers answer old new before after
+pub answers_found : (answer : Status) (finding : Finding) (old new before after : Option (List ℕ)) → Finds old finding → ReadsAllOf old new finding → IsWritten answer finding before after → Answers answer (io old new before after)
 answers_found = answered
 
 -- nothing is written where the report was not read
@@ -114,7 +112,7 @@ any_finding : (old : Option (List ℕ)) → (finding : Finding) × Finds old fin
 any_finding None = (Fine, tt)
 any_finding (Some bytes) = (found_in (opening_of bytes), refl)
 
-pub answers_stopped : (stop : Stop) (faults later : ℕ) (old new before : Option (List ℕ)) → ReadCause faults later stop → Answers (status_of_stop stop) old new before before
+pub answers_stopped : (stop : Stop) (faults later : ℕ) (old new before : Option (List ℕ)) → ReadCause faults later stop → Answers (status_of_stop stop) (io old new before before)
 answers_stopped ReadFault faults later old new before cause = let f = any_finding old in (f.0, f.1, no-prefix before (finding_text f.0))
 answers_stopped WriteFault faults later old new before cause = absurd cause
 answers_stopped OutOfMemory faults later old new before cause = let f = any_finding old in (f.0, f.1, no-prefix before (finding_text f.0))

@@ -9,7 +9,7 @@ use Rattle.command_words.specs.declared.command.Command.TheVariants.{Act, Rd, Wr
 use Rattle.ddr_text.specs.ReportGrammar.{has_place}
 use Rattle.speed_bin.specs.Log.{Log, Issued}
 use Rattle.speed_bin.specs.Marks.{is_bank, stays_inside}
-use Rattle.speed_bin.specs.Rules.{first_failing, rule_1, rule_11, rule_12, rule_13, rule_14, rules_at_end, verdict, verdict_at_end}
+use Rattle.speed_bin.specs.Rules.{first_failing, rule_11, rule_12, rule_13, rule_14, rules_at_end, verdict, verdict_at_end}
 use Rattle.speed_bin.specs.declared.header.Header.{Header}
 use Rattle.speed_bin.specs.Header.{shape_of}
 use Rattle.log_ledger.proofs.Grouped.{assoc, follows as follows_ten}

@@ -1,5 +1,5 @@
 -- The lines of a report, one more at the end.
-use Rattle.std.proofs.Common.{◌≡◌, ◌∙◌, ℕ, suc, ◌+◌, ◌-◌, ◌<◌, ◌≤◌, Bool, true, false, if◌then◌else◌, cond, Option, Some, None, List, [], ◌∷◌, ◌++◌, length, reverse, slice_index, get_or, refl, sym, ap, subst, arith, append_assoc, append-nil, length-append}
+use Rattle.std.proofs.Common.{◌≡◌, ◌∙◌, ℕ, suc, ◌+◌, ◌-◌, ◌≤◌, Bool, true, false, cond, Option, Some, None, List, [], ◌∷◌, ◌++◌, length, reverse, slice_index, refl, sym, ap, arith, append-nil}
 use Rattle.std.proofs.lemmas.List.{reverse-append, get_or_append_left, length-reverse}
 use Rattle.std.proofs.Math.Seq.{get_or-append_seam}
 use Rattle.command_words.specs.declared.command.Command.{Command}
@@ -7,7 +7,7 @@ use Rattle.ddr_text.specs.declared.lines.ReportLine.{ReportLine}
 use Rattle.ddr_text.specs.declared.lines.ReportLine.TheVariants.{Issued, Value, Flip, Stat, End, Refused}
 use Rattle.ddr_text.specs.ReportParts.{places_of}
 use Rattle.ddr_text.proofs.Places.{places_of-append}
-use Rattle.speed_bin.specs.Log.{Log, Issued as Place}
+use Rattle.speed_bin.specs.Log.{Log}
 use Rattle.speed_bin.specs.Rules.{verdict, verdict_after, verdict_at_end, broken, broken_at_end}
 use Rattle.speed_bin.specs.declared.header.Header.{Header}
 use Rattle.log_auditor.specs.Findings.{breach_at, breach_of, end_of, is_place, log_of, numbers_from, on_line}

@@ -10,8 +10,7 @@ use Rattle.ddr_text.proofs.LinesInFront.{left_next}
 use Rattle.speed_bin.specs.declared.header.Header.{Header}
 use Rattle.log_auditor.specs.Auditing.{StandsFor}
 use Rattle.speed_bin.specs.Header.{shape_of}
-use Rattle.log_auditor.specs.Findings.{breach_of, fine_or}
-use Rattle.log_auditor.specs.Progress.{Audited, FindsBehind, Reads, ReadsAllOf}
+use Rattle.log_auditor.specs.AuditSoFar.{Audited, FindsBehind, Reads, ReadsAllOf}
 use Rattle.ddr_text.specs.ReportReading.{IsStep, LeftOf, Place, StepsOn, lines_behind, most_lines, stage_after}
 use Rattle.log_auditor.specs.declared.auditor.Auditor.{Auditor}
 use Rattle.log_auditor.specs.declared.finding.Finding.{Finding}

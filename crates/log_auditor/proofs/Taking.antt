@@ -162,6 +162,9 @@ never_open s shut opened = let both : true ≡ false = sym opened ∙ shut in cc
 never_ended : (s : State) → is_ended s ≡ false → is_ended s ≡ true → ⊥
 never_ended s going ends = let both : true ≡ false = sym ends ∙ going in cc
 
+never_an_end : (line : ReportLine) → is_end line ≡ false → is_end line ≡ true → ⊥
+never_an_end line other at_end = let both : true ≡ false = sym at_end ∙ other in cc
+
 was_open : (old new : Judge) → (is_open old.state ≡ false → new.state ≡ old.state) → is_open new.state ≡ true → is_open old.state ≡ true
 was_open old new stays opened = go (is_open old.state) refl
   where
@@ -169,10 +172,10 @@ was_open old new stays opened = go (is_open old.state) refl
     go true e = e
     go false e = absurd (never_open old.state e (ap is_open (sym (stays e)) ∙ opened))
 
-pub kept_issued : (line : ReportLine) (clock : ℕ) (command : Command) (old new : Judge) → IsSound old → is_ended old.state ≡ false → new.timing ≡ old.timing → new.geometry ≡ old.geometry → (is_open old.state ≡ false → new.state ≡ old.state) → (is_ended old.state ≡ false → is_ended new.state ≡ false)
+pub kept_issued : (line : ReportLine) (clock : ℕ) (command : Command) (old new : Judge) → line ≡ Issued clock command → IsSound old → is_ended old.state ≡ false → new.timing ≡ old.timing → new.geometry ≡ old.geometry → (is_open old.state ≡ false → new.state ≡ old.state) → (is_ended old.state ≡ false → is_ended new.state ≡ false)
     → ((h : Header) (log : Log) → Keeps old h log → Keeps new h (record { clock = clock; command = command } ∷ log)) → Kept line old new
 unfolding StandsFor
-kept_issued line clock command old new sound going timing geometry stays goes_on keeps = record {
+kept_issued line clock command old new is sound going timing geometry stays goes_on keeps = record {
   sound = record {
     timing = subst IsTiming (sym timing) sound.timing;
     some = λ opened. ∥∥₁_map (sound.some (was_open old new stays opened)) (λ p. (p.0, record { clock = clock; command = command } ∷ p.1, keeps p.0 p.1 p.2));
@@ -180,6 +183,7 @@ kept_issued line clock command old new sound going timing geometry stays goes_on
   geometry = geometry;
   stays = stays;
   ended = λ ends. absurd (never_ended new.state (goes_on going) ends);
+  shut = λ at_end. absurd (never_an_end line (ap is_end is) at_end);
 }
 
 pub kept_end : (line : ReportLine) (clock : ℕ) (old new : Judge) → line ≡ End clock → IsSound old → new.timing ≡ old.timing → new.geometry ≡ old.geometry → (is_open old.state ≡ false → new.state ≡ old.state) → is_open new.state ≡ false → Kept line old new
@@ -188,14 +192,16 @@ kept_end line clock old new is sound timing geometry stays shut = record {
   geometry = geometry;
   stays = stays;
   ended = λ ends. ap is_end is;
+  shut = λ at_end. shut;
 }
 
-pub kept_other : (line : ReportLine) (it : Judge) → IsSound it → is_ended it.state ≡ false → Kept line it it
-kept_other line it sound going = record {
+pub kept_other : (line : ReportLine) (it : Judge) → is_end line ≡ false → IsSound it → is_ended it.state ≡ false → Kept line it it
+kept_other line it other sound going = record {
   sound = sound;
   geometry = refl;
   stays = λ shut. refl;
   ended = λ ends. absurd (never_ended it.state going ends);
+  shut = λ at_end. absurd (never_an_end line other at_end);
 }
 
 -- ---- What a caller knows
@@ -212,6 +218,15 @@ open_state : (s : State) → is_ended s ≡ false → told_state s ≡ Fine → 
 open_state Open going fine = refl
 open_state (Broken rule) going fine = absurd cc
 open_state Ended going fine = absurd cc
+
+ended_state : (s : State) → is_open s ≡ false → told_state s ≡ Fine → is_ended s ≡ true
+ended_state Open shut fine = absurd cc
+ended_state (Broken rule) shut fine = absurd cc
+ended_state Ended shut fine = refl
+
+-- an E line that is told to be fine ends the log
+pub ended_again : (line : ReportLine) (old new : Judge) (answer : Verdict) → Kept line old new → answer ≡ told_state new.state → is_end line ≡ true → answer ≡ Fine → has_ended new ≡ true
+ended_again line old new answer kept says at_end fine = ended_state new.state (kept.shut at_end) (sym says ∙ fine)
 
 pub stands_for_some : (it : Judge) → IsSound it → has_ended it ≡ false → verdict_so_far it ≡ Fine → StandsForSome it
 stands_for_some it sound going fine = sound.some (open_state it.state going fine)

@@ -94,12 +94,13 @@ pub record IsSound (it : Judge) : Type 0 where
   pub timing : IsTiming it.timing
   pub some : is_open it.state ≡ true → StandsForSome it
 
--- What every line keeps. Only an E line ends a log.
+-- What every line keeps. Only an E line ends a log, and behind an E line it is no longer open.
 pub record Kept (line : ReportLine) (old new : Judge) : Type 0 where
   pub sound : IsSound new
   pub geometry : new.geometry ≡ old.geometry
   pub stays : is_open old.state ≡ false → new.state ≡ old.state
   pub ended : is_ended new.state ≡ true → is_end line ≡ true
+  pub shut : is_end line ≡ true → is_open new.state ≡ false
 
 -- ---- What a caller sees of it
 

@@ -5,6 +5,7 @@ use Rattle.std.specs.Io.KnownBytes.{Appends}
 use Rattle.ddr_io.specs.Sink.{AppendsPrefix}
 use Rattle.ddr_io.specs.declared.status.Status.{Status}
 use Rattle.ddr_io.specs.declared.status.Status.TheVariants as status
+use Rattle.ddr_text.specs.Io.{Io}
 use Rattle.ddr_text.specs.Opening.{Opens, Accepts, Refuses, opening_of, parts_of}
 use Rattle.ddr_text.specs.Outcome.{ReadsAll}
 use Rattle.ddr_text.specs.ReportParts.{Refusal, places_of}
@@ -123,11 +124,11 @@ BeginsToWrite bytes before after = (finding : Finding) × Finds bytes finding ×
 
 -- What an audit answers, by the bytes that its source had and has left, and those that its sink got. A report without a
 -- line to refuse was read to its end.
-abbrev pub Answers : Status → Option (List ℕ) → Option (List ℕ) → Option (List ℕ) → Option (List ℕ) → Type 0
-Answers status.Ok old new before after = Writes status.Ok old before after × ReadsAll old new
-Answers status.Broken old new before after = Writes status.Broken old before after × ReadsAll old new
-Answers status.Refused old new before after = Writes status.Refused old before after
-Answers status.ReadFault old new before after = BeginsToWrite old before after
-Answers status.WriteFault old new before after = BeginsToWrite old before after
-Answers status.OutOfMemory old new before after = BeginsToWrite old before after
-Answers status.Usage old new before after = ⊥
+abbrev pub Answers : Status → Io → Type 0
+Answers status.Ok io = Writes status.Ok io.had io.written_before io.written_after × ReadsAll io.had io.left
+Answers status.Broken io = Writes status.Broken io.had io.written_before io.written_after × ReadsAll io.had io.left
+Answers status.Refused io = Writes status.Refused io.had io.written_before io.written_after
+Answers status.ReadFault io = BeginsToWrite io.had io.written_before io.written_after
+Answers status.WriteFault io = BeginsToWrite io.had io.written_before io.written_after
+Answers status.OutOfMemory io = BeginsToWrite io.had io.written_before io.written_after
+Answers status.Usage io = ⊥

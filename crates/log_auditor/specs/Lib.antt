@@ -1,4 +1,4 @@
 pub mod Auditing
 pub mod Findings
 pub mod Groups
-pub mod Progress
+pub mod AuditSoFar

@@ -8,7 +8,7 @@ ghost use Rattle.ddr_text.specs.declared.lines.ReportLine.{ReportLine as AnyRepo
 ghost use Rattle.speed_bin.specs.Header.{IsAccepted, shape_of};
 ghost use Rattle.speed_bin.specs.declared.header.Header.{Header as AnyHeader};
 ghost use Rattle.log_auditor.specs.Findings.{Answers, Finds, is_place};
-ghost use Rattle.log_auditor.specs.Progress.{Audited, FindsBehind, IsWritten, ReadsAllOf};
+ghost use Rattle.log_auditor.specs.AuditSoFar.{Audited, FindsBehind, IsWritten, ReadsAllOf};
 ghost use Rattle.ddr_text.specs.ReportReading.{stage_after};
 ghost use Rattle.ddr_text.specs.declared.report_reader.Stage.{Stage as AnyStage};
 
@@ -25,7 +25,7 @@ use std::alloc::Global;
 /// the reason. A line that is not well formed comes before a broken rule, wherever it stands.
 #[inline(never)]
 pub fn audit<S: Source, K: Sink>(alloc: Global, source: &mut S, sink: &mut K) -> Status
-    ensures answer { Answers result (S.left source.old) (S.left source.new) (K.written sink.old) (K.written sink.new) }
+    ensures answer { Answers result (record { had = S.left source.old; left = S.left source.new; written_before = K.written sink.old; written_after = K.written sink.new }) }
     ensures read { result ≡ Status.ReadFault → Rose (S.faults source.old) (S.faults source.new) }
     ensures write { result ≡ Status.WriteFault → Rose (K.faults sink.old) (K.faults sink.new) }
 
@@ -44,7 +44,7 @@ pub fn audit<S: Source, K: Sink>(alloc: Global, source: &mut S, sink: &mut K) ->
 fn write_finding<K: Sink>(finding: Finding, sink: &mut K) -> Status
     ensures written { IsWritten result finding (K.written sink.old) (K.written sink.new) }
     ensures write { result ≡ Status.WriteFault → Rose (K.faults sink.old) (K.faults sink.new) }
-    ensures kept { result ≢ Status.WriteFault → K.faults sink.new ≡ K.faults sink.old }
+    ensures faults_kept { result ≢ Status.WriteFault → K.faults sink.new ≡ K.faults sink.old }
 {
     let mut text = ArrayVec::new();
     finding.spell(&mut text);
@@ -59,7 +59,7 @@ fn find<S: Source>(alloc: Global, source: &mut S) -> Result<Finding, Stop>
     ensures found { IfOk result (Finds (S.left source.old)) }
     ensures all { IfOk result (ReadsAllOf (S.left source.old) (S.left source.new)) }
     ensures cause { IfErr result (ReadCause (S.faults source.old) (S.faults source.new)) }
-    ensures kept { result ≢ Err Stop.ReadFault → S.faults source.new ≡ S.faults source.old }
+    ensures faults_kept { result ≢ Err Stop.ReadFault → S.faults source.new ≡ S.faults source.old }
 {
     let mut reader = LineReader::new();
     match open_job(alloc, &mut reader, source) {
@@ -83,7 +83,7 @@ fn find_behind<S: Source>(
     ensures found { IfOk result (FindsBehind header.now (next_bytes reader.held (S.left source.old))) }
     ensures all { IfOk result (ReadsAllOf (S.left source.old) (S.left source.new)) }
     ensures cause { IfErr result (ReadCause (S.faults source.old) (S.faults source.new)) }
-    ensures kept { result ≢ Err Stop.ReadFault → S.faults source.new ≡ S.faults source.old }
+    ensures faults_kept { result ≢ Err Stop.ReadFault → S.faults source.new ≡ S.faults source.old }
 {
     let mut auditor = match Auditor::new(alloc, header) {
         Ok(auditor) => auditor,

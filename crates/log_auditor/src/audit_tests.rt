@@ -65,113 +65,117 @@ const SCRUBBED: &str =
 const SCRUBBED_WRITES: &str =
     "C 0 0805 000f\nC 4 0825 0000\nC 8 0845 0005\nC 12 0865 0003\nC 16 0885 0000\nC 20 08a5 0008\nC 24 08c5 0010\nC 28 08e5 0001\n";
 
+// Commands too close to each other, and at their gap.
+const SPACED: [(&str, &str, &str); 9] = [
+    (
+        "five activations within the window",
+        "C 32 0000 0000\nC 34 0100 0000\nC 36 0200 0000\nC 38 0300 0000\nC 41 0400 0000\nC 48 000b\nE 49\n",
+        "A broken 13 3\n",
+    ),
+    (
+        "five activations in time",
+        "C 32 0000 0000\nC 34 0100 0000\nC 36 0200 0000\nC 38 0300 0000\nC 42 0400 0000\nC 48 000b\nE 49\n",
+        "A ok\n",
+    ),
+    (
+        "a read of another group too soon behind a write",
+        "C 32 0000 0000\nC 34 0100 0000\nC 36 002d 0c00\nC 49 013d 0400\nE 50\n",
+        "A broken 12 2\n",
+    ),
+    (
+        "the same in time, and banks open at the end",
+        "C 32 0000 0000\nC 34 0100 0000\nC 36 002d 0c00\nC 50 013d 0400\nE 51\n",
+        "A broken 13 14\n",
+    ),
+    (
+        "a read of the same group too soon",
+        "C 32 0000 0000\nC 34 0100 0000\nC 36 002d 0c00\nC 51 003d 0400\nE 52\n",
+        "A broken 12 2\n",
+    ),
+    (
+        "the same in time",
+        "C 32 0000 0000\nC 34 0100 0000\nC 36 002d 0c00\nC 52 003d 0400\nE 53\n",
+        "A broken 13 14\n",
+    ),
+    (
+        "an older write blocks a precharge",
+        "C 32 0000 0000\nC 34 0100 0000\nC 36 002d 0c00\nC 50 013d 0400\nC 52 001b\nE 53\n",
+        "A broken 13 2\n",
+    ),
+    (
+        "the same in time, and another bank open",
+        "C 32 0000 0000\nC 34 0100 0000\nC 36 002d 0c00\nC 50 013d 0400\nC 53 001b\nE 54\n",
+        "A broken 14 14\n",
+    ),
+    (
+        "the least of three rules",
+        "C 28 003d 0400\nE 60\n",
+        "A broken 9 1\n",
+    ),
+];
+
 #[test]
 fn spacing_is_audited(rt: HostRuntime) -> Result<(), Fail> {
-    let rows = [
-        (
-            "five activations within the window",
-            "C 32 0000 0000\nC 34 0100 0000\nC 36 0200 0000\nC 38 0300 0000\nC 41 0400 0000\nC 48 000b\nE 49\n",
-            "A broken 13 3\n",
-        ),
-        (
-            "five activations in time",
-            "C 32 0000 0000\nC 34 0100 0000\nC 36 0200 0000\nC 38 0300 0000\nC 42 0400 0000\nC 48 000b\nE 49\n",
-            "A ok\n",
-        ),
-        (
-            "a read of another group too soon behind a write",
-            "C 32 0000 0000\nC 34 0100 0000\nC 36 002d 0c00\nC 49 013d 0400\nE 50\n",
-            "A broken 12 2\n",
-        ),
-        (
-            "the same in time, and banks open at the end",
-            "C 32 0000 0000\nC 34 0100 0000\nC 36 002d 0c00\nC 50 013d 0400\nE 51\n",
-            "A broken 13 14\n",
-        ),
-        (
-            "a read of the same group too soon",
-            "C 32 0000 0000\nC 34 0100 0000\nC 36 002d 0c00\nC 51 003d 0400\nE 52\n",
-            "A broken 12 2\n",
-        ),
-        (
-            "the same in time",
-            "C 32 0000 0000\nC 34 0100 0000\nC 36 002d 0c00\nC 52 003d 0400\nE 53\n",
-            "A broken 13 14\n",
-        ),
-        (
-            "an older write blocks a precharge",
-            "C 32 0000 0000\nC 34 0100 0000\nC 36 002d 0c00\nC 50 013d 0400\nC 52 001b\nE 53\n",
-            "A broken 13 2\n",
-        ),
-        (
-            "the same in time, and another bank open",
-            "C 32 0000 0000\nC 34 0100 0000\nC 36 002d 0c00\nC 50 013d 0400\nC 53 001b\nE 54\n",
-            "A broken 14 14\n",
-        ),
-        (
-            "the least of three rules",
-            "C 28 003d 0400\nE 60\n",
-            "A broken 9 1\n",
-        ),
-    ];
-    check(&rt, rt.alloc(), (PLAIN, PLAIN_WRITES), &rows)
+    check(&rt, rt.alloc(), (PLAIN, PLAIN_WRITES), &SPACED)
 }
+
+// Each rule that one command alone can break.
+const BROKEN_RULES: [(&str, &str, &str); 10] = [
+    (
+        "rule 1: a clock twice",
+        "C 28 001f\nE 30\n",
+        "A broken 9 1\n",
+    ),
+    (
+        "rule 1: the end at the last clock",
+        "E 28\n",
+        "A broken 9 1\n",
+    ),
+    (
+        "rule 4: a read of a closed bank",
+        "C 32 003d 0400\nE 60\n",
+        "A broken 9 4\n",
+    ),
+    (
+        "rule 4: an activation of an open bank",
+        "C 32 0000 0000\nC 42 0000 0000\nE 60\n",
+        "A broken 10 4\n",
+    ),
+    (
+        "rule 5: a refresh with a bank open",
+        "C 32 0000 0000\nC 100 0213\nE 200\n",
+        "A broken 10 5\n",
+    ),
+    (
+        "rule 6: a debt of 5",
+        "C 5000 001f\nE 5001\n",
+        "A broken 9 6\n",
+    ),
+    (
+        "rule 6: a debt of 5 at the end",
+        "C 4999 001f\nE 5000\n",
+        "A broken 10 6\n",
+    ),
+    (
+        "rule 7: one address twice",
+        "C 32 0613\nC 100 0613\nE 200\n",
+        "A broken 10 7\n",
+    ),
+    (
+        "rule 8: a scrub where there is none",
+        "C 32 018f\nE 60\n",
+        "A broken 9 8\n",
+    ),
+    (
+        "rule 14: a ninth write",
+        "C 32 0805 000f\nE 40\n",
+        "A broken 9 14\n",
+    ),
+];
 
 #[test]
 fn each_rule_is_named(rt: HostRuntime) -> Result<(), Fail> {
-    let rows = [
-        (
-            "rule 1: a clock twice",
-            "C 28 001f\nE 30\n",
-            "A broken 9 1\n",
-        ),
-        (
-            "rule 1: the end at the last clock",
-            "E 28\n",
-            "A broken 9 1\n",
-        ),
-        (
-            "rule 4: a read of a closed bank",
-            "C 32 003d 0400\nE 60\n",
-            "A broken 9 4\n",
-        ),
-        (
-            "rule 4: an activation of an open bank",
-            "C 32 0000 0000\nC 42 0000 0000\nE 60\n",
-            "A broken 10 4\n",
-        ),
-        (
-            "rule 5: a refresh with a bank open",
-            "C 32 0000 0000\nC 100 0213\nE 200\n",
-            "A broken 10 5\n",
-        ),
-        (
-            "rule 6: a debt of 5",
-            "C 5000 001f\nE 5001\n",
-            "A broken 9 6\n",
-        ),
-        (
-            "rule 6: a debt of 5 at the end",
-            "C 4999 001f\nE 5000\n",
-            "A broken 10 6\n",
-        ),
-        (
-            "rule 7: one address twice",
-            "C 32 0613\nC 100 0613\nE 200\n",
-            "A broken 10 7\n",
-        ),
-        (
-            "rule 8: a scrub where there is none",
-            "C 32 018f\nE 60\n",
-            "A broken 9 8\n",
-        ),
-        (
-            "rule 14: a ninth write",
-            "C 32 0805 000f\nE 40\n",
-            "A broken 9 14\n",
-        ),
-    ];
-    check(&rt, rt.alloc(), (PLAIN, PLAIN_WRITES), &rows)
+    check(&rt, rt.alloc(), (PLAIN, PLAIN_WRITES), &BROKEN_RULES)
 }
 
 #[test]

@@ -82,8 +82,9 @@ impl Auditor {
         ensures so_far { result ≡ verdict_so_far self.new }
         ensures stays { verdict_so_far self.old ≢ Verdict.Fine → result ≡ verdict_so_far self.old }
 
-        // Only an E line ends a log, and only where no rule is broken.
+        // Only an E line ends a log, and it does where no rule is broken.
         ensures ended { has_ended self.new ≡ true → is_end line.now ≡ true }
+        ensures ends { is_end line.now ≡ true → result ≡ Verdict.Fine → has_ended self.new ≡ true }
         ensures geometry { geometry_of self.new ≡ geometry_of self.old }
 
         // No row of a log that was taken without fault has more activations since its last mitigation than the bound.

@@ -89,7 +89,7 @@ follows h clock command log none =
       record {
         spaced = record { rises = k.0; gaps = k.1; window = k.2 };
         fits = record { fourth = k.3; fifth = k.4 };
-        allowed = record { sixth = k.5; seventh = k.6; eighth = k.7 };
+        allowed = record { refreshes_in_time = k.5; refreshes_evenly = k.6; scrubs_in_step = k.7 };
         counted = k.8;
       },
       k.9,
@@ -100,7 +100,7 @@ unfolding first_of_ten
 breaks_none h clock command log f tenth =
     all_pass (rule_1 clock log) (rule_2 h.timing clock command log) (rule_3 h.timing clock command log) (rule_4 command log) (rule_5 command log)
     (rule_6 h clock command log) (rule_7 command log) (rule_8 h command log) (rule_9 h command log) (rule_10 h command log)
-    f.spaced.rises f.spaced.gaps f.spaced.window f.fits.fourth f.fits.fifth f.allowed.sixth f.allowed.seventh f.allowed.eighth f.counted tenth
+    f.spaced.rises f.spaced.gaps f.spaced.window f.fits.fourth f.fits.fifth f.allowed.refreshes_in_time f.allowed.refreshes_evenly f.allowed.scrubs_in_step f.counted tenth
 
 is_none_of : (o : Option ℕ) → o ≡ None → IsNone o
 is_none_of None e = refl

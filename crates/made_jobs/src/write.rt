@@ -21,9 +21,9 @@ const OPENING: &[u8] =
 /// and `OutOfMemory` are the sink's: some prefix of the job was written then.
 pub fn write_job<K: Sink>(seed: u64, requests: u64, sink: &mut K) -> Status
     ensures bytes { Writes result (K.written sink.old) (K.written sink.new) (made seed requests) }
-    ensures later { K.faults sink.old ≤ K.faults sink.new }
+    ensures faults_never_fall { K.faults sink.old ≤ K.faults sink.new }
     ensures fault { result ≡ Status.WriteFault → Rose (K.faults sink.old) (K.faults sink.new) }
-    ensures kept { result ≢ Status.WriteFault → K.faults sink.new ≡ K.faults sink.old }
+    ensures faults_kept { result ≢ Status.WriteFault → K.faults sink.new ≡ K.faults sink.old }
 {
     match put_job(seed, requests, sink) {
         Ok(()) => Status::Ok,
@@ -33,10 +33,10 @@ pub fn write_job<K: Sink>(seed: u64, requests: u64, sink: &mut K) -> Status
 
 fn put_job<K: Sink>(seed: u64, requests: u64, sink: &mut K) -> Result<(), Stop>
     ensures whole { OnOk result (Appends (K.written sink.old) (K.written sink.new) (made seed requests)) }
-    ensures cut { IfErr result (λ stop. AppendsPrefix (K.written sink.old) (K.written sink.new) (made seed requests)) }
-    ensures later { K.faults sink.old ≤ K.faults sink.new }
+    ensures writes_a_prefix { IfErr result (λ stop. AppendsPrefix (K.written sink.old) (K.written sink.new) (made seed requests)) }
+    ensures faults_never_fall { K.faults sink.old ≤ K.faults sink.new }
     ensures cause { IfErr result (WriteCause (K.faults sink.old) (K.faults sink.new)) }
-    ensures kept { OnOk result (K.faults sink.new ≡ K.faults sink.old) }
+    ensures faults_kept { OnOk result (K.faults sink.new ≡ K.faults sink.old) }
 {
     put(OPENING, sink)?;
     let mut generator = Generator::new(seed);
@@ -50,10 +50,10 @@ fn put_job<K: Sink>(seed: u64, requests: u64, sink: &mut K) -> Result<(), Stop>
 // Writes a line.
 fn put_line<K: Sink>(line: &TraceLine, sink: &mut K) -> Result<(), Stop>
     ensures whole { OnOk result (Appends (K.written sink.old) (K.written sink.new) (spelled_line line.now)) }
-    ensures cut { IfErr result (λ stop. AppendsPrefix (K.written sink.old) (K.written sink.new) (spelled_line line.now)) }
-    ensures later { K.faults sink.old ≤ K.faults sink.new }
+    ensures writes_a_prefix { IfErr result (λ stop. AppendsPrefix (K.written sink.old) (K.written sink.new) (spelled_line line.now)) }
+    ensures faults_never_fall { K.faults sink.old ≤ K.faults sink.new }
     ensures cause { IfErr result (WriteCause (K.faults sink.old) (K.faults sink.new)) }
-    ensures kept { OnOk result (K.faults sink.new ≡ K.faults sink.old) }
+    ensures faults_kept { OnOk result (K.faults sink.new ≡ K.faults sink.old) }
 {
     let mut text = ArrayVec::new();
     write_trace_line(line, &mut text);

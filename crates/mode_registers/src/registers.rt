@@ -43,8 +43,8 @@ impl Registers {
     /// Writes a register. A refusal leaves all as it was.
     pub fn apply(&mut self, write: Mrw) -> Result<(), RegisterFault>
         ensures outcome { result ≡ outcome write }
-        ensures ok { OnOk result (self.new ≡ written self.old write) }
-        ensures err { OnErr result (self.new ≡ self.old) }
+        ensures is_written { OnOk result (self.new ≡ written self.old write) }
+        ensures unchanged { OnErr result (self.new ≡ self.old) }
     {
         if write.address < 64 || 71 < write.address {
             return Err(RegisterFault::NoRegister);

@@ -36,7 +36,7 @@ pub fn alerts()
 
 /// Whether the log keeps pages open.
 pub fn open_page()
-    ensures kept { (h : Header) (log : Log) → IsAccepted h → RowsInRange h log → keeps_page log ≡ keeps_page_over (banks_of_header h) log }
+    ensures keeps_page { (h : Header) (log : Log) → IsAccepted h → RowsInRange h log → keeps_page log ≡ keeps_page_over (banks_of_header h) log }
 {}
 
 /// The greatest number of activations of a row since its last mitigation.

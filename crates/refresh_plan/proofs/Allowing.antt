@@ -67,7 +67,7 @@ pub rule_7_test : (it : Held) (h : Header) (log : Log) (command : Command) (coun
 rule_7_test it h log command counts result keeps counted means = even_test (record { clock = 0; command = command } ∷ log) counts result (λ address low. counted address low ∙ after_refs it h log 0 command address keeps low) means
 
 pub allowed_where_in_step : (h : Header) (log : Log) (clock : ℕ) (command : Command) (on_time even in_step : Bool) → on_time ≡ rule_6 h clock command log → even ≡ rule_7 command log → in_step ≡ rule_8 h command log → on_time ≡ true → even ≡ true → IsTrue in_step ↔ IsAllowed h clock command log
-allowed_where_in_step h log clock command on_time even in_step six seven eight t u = (λ k. record { sixth = sym six ∙ t; seventh = sym seven ∙ u; eighth = sym eight ∙ k }, λ allowed. eight ∙ allowed.eighth)
+allowed_where_in_step h log clock command on_time even in_step six seven eight t u = (λ k. record { refreshes_in_time = sym six ∙ t; refreshes_evenly = sym seven ∙ u; scrubs_in_step = sym eight ∙ k }, λ allowed. eight ∙ allowed.scrubs_in_step)
 
 pub not_allowed : (P : Type 0) (value : Bool) → value ≡ false → (P → ⊥) → IsTrue value ↔ P
 not_allowed P value e never = (λ k. absurd cc, λ p. absurd (never p))
@@ -87,6 +87,6 @@ pub allowed_where_none : (h : Header) (log : Log) (clock : ℕ) (command : Comma
 allowed_where_none h log clock command result is = (
   λ none.
       let p = none_broken (rule_6 h clock command log) (rule_7 command log) (rule_8 h command log) (subst (λ (o : Option ℕ). is_some o ≡ false) is none) in
-      record { sixth = p.0; seventh = p.1; eighth = p.2 },
-  λ allowed. subst (λ (o : Option ℕ). is_some o ≡ false) (sym is) (rw (allowed.sixth, allowed.seventh, allowed.eighth) refl),
+      record { refreshes_in_time = p.0; refreshes_evenly = p.1; scrubs_in_step = p.2 },
+  λ allowed. subst (λ (o : Option ℕ). is_some o ≡ false) (sym is) (rw (allowed.refreshes_in_time, allowed.refreshes_evenly, allowed.scrubs_in_step) refl),
 )

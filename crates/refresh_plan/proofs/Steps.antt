@@ -63,7 +63,7 @@ ahead it clock command address early may low = ∥∥₁_elim may le_prop (λ p.
     go : (h : Header) (log : Log) → Keeps it h log → IsAllowed h clock command log → after it command address ≤ 2 ^ 48 + 4
     go h log keeps allowed =
         let e = after_refs it h log clock command address keeps low in
-        let below = on_time_at h clock command log address low allowed.sixth in
+        let below = on_time_at h clock command log address low allowed.refreshes_in_time in
         let passed = div-le_self clock h.timing.nrefi in
         omega arith
 
@@ -79,7 +79,7 @@ scrubbed_at_most it clock command may bounded = go (is_scrub command) refl
   where
     in_step : (h : Header) (log : Log) → Keeps it h log → IsAllowed h clock command log → is_scrub command ≡ true → it.scrubs + 1 ≤ 2 ^ 48 + 4
     in_step h log keeps allowed e =
-        let few = ecs_in_step h.settings.ecs_every (scrubs log) (refs 0 log) (is_scrub command) (refreshes 0 command) (h.settings.ecs_every == 0) e allowed.eighth in
+        let few = ecs_in_step h.settings.ecs_every (scrubs log) (refs 0 log) (is_scrub command) (refreshes 0 command) (h.settings.ecs_every == 0) e allowed.scrubs_in_step in
         let fewer = div-le_self (refs 0 log) h.settings.ecs_every in
         let count = keeps.counts 0 (omega arith) in
         let most = bounded.refreshed 0 in

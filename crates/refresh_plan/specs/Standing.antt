@@ -8,9 +8,9 @@ use Rattle.refresh_plan.specs.Held.{Held}
 
 -- rules 6, 7 and 8 hold of the command at the clock after the log
 pub record IsAllowed (h : Header) (clock : ℕ) (command : Command) (log : Log) : Type 0 where
-  pub sixth : IsTrue (rule_6 h clock command log)
-  pub seventh : IsTrue (rule_7 command log)
-  pub eighth : IsTrue (rule_8 h command log)
+  pub refreshes_in_time : IsTrue (rule_6 h clock command log)
+  pub refreshes_evenly : IsTrue (rule_7 command log)
+  pub scrubs_in_step : IsTrue (rule_8 h command log)
 
 -- whether each of them holds
 abbrev pub refresh_rules : Header → ℕ → Command → Log → List Bool

@@ -128,17 +128,17 @@ next-in_order offered run r later e = record { earlier = reverse (served run); l
 -- ---- Sound runs
 
 -- of a line, the requests that are not served yet, in order
-pub record Waits (line : ℕ) (offered : List Request) (run : Run) : Type 0 where
+pub record LeftInOrder (line : ℕ) (offered : List Request) (run : Run) : Type 0 where
   pub waiting : List Request
   pub is : reverse (on line (served run)) ++ waiting ≡ on line offered
 
-waits-other : (line : ℕ) (offered : List Request) (run : Run) (s : Served) (r : Request) → s.request ≡ Some r → (r.line == line) ≡ false → Waits line offered run → Waits line offered (Issues s ∷ run)
+waits-other : (line : ℕ) (offered : List Request) (run : Run) (s : Served) (r : Request) → s.request ≡ Some r → (r.line == line) ≡ false → LeftInOrder line offered run → LeftInOrder line offered (Issues s ∷ run)
 waits-other line offered run s r e f w = record {
   waiting = w.waiting;
   is = ap (λ o. reverse (on line (also o (served run))) ++ w.waiting) e ∙ ap (λ b. reverse (cond b (r ∷ on line (served run)) (on line (served run))) ++ w.waiting) f ∙ w.is;
 }
 
-waits-own : (offered : List Request) (run : Run) (s : Served) (r : Request) → s.request ≡ Some r → IsNext offered run r → Waits r.line offered (Issues s ∷ run)
+waits-own : (offered : List Request) (run : Run) (s : Served) (r : Request) → s.request ≡ Some r → IsNext offered run r → LeftInOrder r.line offered (Issues s ∷ run)
 waits-own offered run s r e n = record {
   waiting = on r.line n.later;
   is = ap (λ o. reverse (on r.line (also o (served run))) ++ on r.line n.later) e
@@ -149,16 +149,16 @@ waits-own offered run s r e n = record {
       ∙ sym (ap (on r.line) n.is_offered ∙ on-append r.line n.earlier (r ∷ n.later) ∙ ap (λ l. on r.line n.earlier ++ l) (on-own r n.later));
 }
 
-waits-some : (line : ℕ) (offered : List Request) (run : Run) (s : Served) (r : Request) (b : Bool) → s.request ≡ Some r → (r.line == line) ≡ b → IsNext offered run r → Waits line offered run → Waits line offered (Issues s ∷ run)
-waits-some line offered run s r true e f n w = subst (λ l. Waits l offered (Issues s ∷ run)) (eqb-true _ _ f) (waits-own offered run s r e n)
+waits-some : (line : ℕ) (offered : List Request) (run : Run) (s : Served) (r : Request) (b : Bool) → s.request ≡ Some r → (r.line == line) ≡ b → IsNext offered run r → LeftInOrder line offered run → LeftInOrder line offered (Issues s ∷ run)
+waits-some line offered run s r true e f n w = subst (λ l. LeftInOrder l offered (Issues s ∷ run)) (eqb-true _ _ f) (waits-own offered run s r e n)
 waits-some line offered run s r false e f n w = waits-other line offered run s r e f w
 
-waits-place : (line : ℕ) (offered : List Request) (run : Run) (s : Served) (o : Option Request) → s.request ≡ o → IfSome o (λ r. IsNext offered run r) → Waits line offered run → Waits line offered (Issues s ∷ run)
+waits-place : (line : ℕ) (offered : List Request) (run : Run) (s : Served) (o : Option Request) → s.request ≡ o → IfSome o (λ r. IsNext offered run r) → LeftInOrder line offered run → LeftInOrder line offered (Issues s ∷ run)
 waits-place line offered run s None e n w = record { waiting = w.waiting; is = ap (λ o. reverse (on line (also o (served run))) ++ w.waiting) e ∙ w.is }
 waits-place line offered run s (Some r) e n w = waits-some line offered run s r (r.line == line) e refl n w
 
 -- each line is served from the front, in order
-pub waits : (h : Header) (trace : List TraceLine) (run : Run) (line : ℕ) → Sound h trace run → Waits line (requests trace) run
+pub waits : (h : Header) (trace : List TraceLine) (run : Run) (line : ℕ) → Sound h trace run → LeftInOrder line (requests trace) run
 waits h trace [] line sound = record { waiting = on line (requests trace); is = refl }
 waits h trace (Issues s ∷ run) line sound = waits-place line (requests trace) run s s.request refl sound.0.is_next (waits h trace run line sound.1)
 waits h trace (Flips k ∷ run) line sound = let w = waits h trace run line sound.1 in record { waiting = w.waiting; is = w.is }

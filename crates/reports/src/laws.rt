@@ -221,7 +221,7 @@ pub fn gives_to_a_controller()
         → is_served_number (rank trace r.number) (controller_steps trace run) ≡ is_served r.number run }
     ensures rank { (trace : List TraceLine) (earlier later : List Request) (r : Request)
         → requests trace ≡ earlier ++ r ∷ later → rank trace r.number ≡ length earlier + 1 }
-    ensures longer { (h : Header) (trace more : List TraceLine) (run : Run) → Sound h trace run
+    ensures same_in_a_longer_trace { (h : Header) (trace more : List TraceLine) (run : Run) → Sound h trace run
         → controller_steps (trace ++ more) run ≡ controller_steps trace run }
     ensures none { (h : Header) (trace : List TraceLine) (run : Run) → Sound h trace run
         → waiting h (offered trace) (controller_steps trace run) ≡ [] → held (requests trace) run ≡ [] }
@@ -256,13 +256,13 @@ pub fn begins_a_run()
     ensures start { (h : Header) → IsUnderway h [] 0 0 [] Unknown }
     ensures ahead { (h : Header) (trace : List TraceLine) (n now : ℕ) (run : Run) (ahead : Ahead)
         → IsUnderway h trace n now run Unknown → IsUnderway h trace n now run ahead }
-    ensures later { (h : Header) (trace : List TraceLine) (n now later : ℕ) (run : Run) (ahead : Ahead)
+    ensures time_passes { (h : Header) (trace : List TraceLine) (n now later : ℕ) (run : Run) (ahead : Ahead)
         → IsUnderway h trace n now run ahead → now ≤ later → IsUnderway h trace n later run ahead }
 {}
 
 /// The next line is a request, which is offered: it is held, behind those that were.
 pub fn takes_a_request()
-    ensures kept { (h : Header) (trace : List TraceLine) (n now : ℕ) (run : Run) (t : TraceLine) (r : Request)
+    ensures stays_underway { (h : Header) (trace : List TraceLine) (n now : ℕ) (run : Run) (t : TraceLine) (r : Request)
         → IsUnderway h trace n now run (Next t) → request_of (1 + length trace) t ≡ r ∷ []
         → IsUnderway h (trace ++ t ∷ []) n now run Unknown }
     ensures offered { (trace : List TraceLine) (t : TraceLine) (r : Request) → request_of (1 + length trace) t ≡ r ∷ []
@@ -294,13 +294,13 @@ pub fn serves_what_is_chosen()
         → ServesNumbered h offers log kind bank column id)
         → IsInRange command → IsChosen h (waiting h offers log) (places log) clock command id
         → IsServing h offers log command id }
-    ensures late { (h : Header) (ws : List Waiting) (log : Log) (from clock : ℕ) (command : Command) (id : Option ℕ)
+    ensures not_before_now { (h : Header) (ws : List Waiting) (log : Log) (from clock : ℕ) (command : Command) (id : Option ℕ)
         → IsPrompt h from log clock command → IsChosen h ws log clock command id → IfSome id (λ number. from ≤ clock) }
 {}
 
 /// A command is issued.
 pub fn issues_a_command()
-    ensures kept { (h : Header) (trace : List TraceLine) (n now later : ℕ) (run : Run) (ahead : Ahead) (clock : ℕ)
+    ensures stays_underway { (h : Header) (trace : List TraceLine) (n now later : ℕ) (run : Run) (ahead : Ahead) (clock : ℕ)
         (command : Command) (id : Option ℕ) → IsUnderway h trace n now run ahead
         → IsIssued h trace run ahead now clock command id → now ≤ later → clock < later
         → IsUnderway h trace n later (issue trace clock command id ∷ run) ahead }
@@ -314,7 +314,7 @@ pub fn issues_a_command()
 
 /// The next line is an F line, and no request waits: the bit is turned.
 pub fn carries_out_a_flip()
-    ensures kept { (h : Header) (trace : List TraceLine) (n now : ℕ) (run : Run) (line device bit : ℕ)
+    ensures stays_underway { (h : Header) (trace : List TraceLine) (n now : ℕ) (run : Run) (line device bit : ℕ)
         → IsUnderway h trace n now run (Next (Flip line device bit))
         → waiting h (offered trace) (controller_steps trace run) ≡ []
         → IsUnderway h (trace ++ Flip line device bit ∷ []) (1 + length trace) now (Flips (1 + length trace) ∷ run) Unknown }
@@ -331,7 +331,7 @@ pub fn carries_out_a_flip()
 
 /// The next line is an I line, no request waits, and its clocks have passed.
 pub fn carries_out_an_idle()
-    ensures kept { (h : Header) (trace : List TraceLine) (n now later : ℕ) (run : Run) (clocks : ℕ)
+    ensures stays_underway { (h : Header) (trace : List TraceLine) (n now later : ℕ) (run : Run) (clocks : ℕ)
         → IsUnderway h trace n now run (Next (Idle clocks))
         → waiting h (offered trace) (controller_steps trace run) ≡ [] → now + clocks ≤ later
         → IsUnderway h (trace ++ Idle clocks ∷ []) (1 + length trace) later run Unknown }

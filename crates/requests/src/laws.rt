@@ -29,25 +29,25 @@ ghost use Rattle.requests.specs.Requested.{Requested, IsQueued};
 
 /// Before the first offer and the first command.
 pub fn starts()
-    ensures kept { (h : Header) (excused : ℕ → Bool) → IsGroups h.version.groups → Requested h [] [] [] excused }
+    ensures requested { (h : Header) (excused : ℕ → Bool) → IsGroups h.version.groups → Requested h [] [] [] excused }
 {}
 
 /// Other banks are excused: a task is set, or the end is announced.
 pub fn after_excuse()
-    ensures kept { (h : Header) (offered : List Request) (log : List Step) (queue : List Waiting) (excused later : ℕ → Bool)
+    ensures requested { (h : Header) (offered : List Request) (log : List Step) (queue : List Waiting) (excused later : ℕ → Bool)
         → Requested h offered log queue excused → Excuses excused later → Requested h offered log queue later }
 {}
 
 /// A request is offered where the queue is not full: it waits under the next number.
 pub fn after_offer()
-    ensures kept { (h : Header) (offered : List Request) (log : List Step) (queue : List Waiting) (excused : ℕ → Bool) (request : Request)
+    ensures requested { (h : Header) (offered : List Request) (log : List Step) (queue : List Waiting) (excused : ℕ → Bool) (request : Request)
         → Requested h offered log queue excused → request.line < lines_of (shape_of h) → (IsFull (length offered) queue → ⊥)
         → Requested h (offered ++ request ∷ []) log (queue ++ waiting_as (shape_of h) (length offered + 1) request ∷ []) excused }
 {}
 
 /// An RD or WR of the oldest request that lies in its bank's open row: that request waits no longer.
 pub fn after_column()
-    ensures kept { (h : Header) (offered : List Request) (log : List Step) (queue : List Waiting) (excused later : ℕ → Bool)
+    ensures requested { (h : Header) (offered : List Request) (log : List Step) (queue : List Waiting) (excused later : ℕ → Bool)
         (clock at b : ℕ) (command : Command) (w : Waiting)
         → Requested h offered log queue excused → command ≡ column_for w.request.kind w.place
         → slice_get queue at ≡ Some w → oldest (hits b (open_at b (places log))) queue ≡ Some w → Excuses excused later
@@ -56,7 +56,7 @@ pub fn after_column()
 
 /// An ACT of a closed bank for the bank's oldest request, where the bank is not excused.
 pub fn after_activate()
-    ensures kept { (h : Header) (offered : List Request) (log : List Step) (queue : List Waiting) (excused later : ℕ → Bool)
+    ensures requested { (h : Header) (offered : List Request) (log : List Step) (queue : List Waiting) (excused later : ℕ → Bool)
         (clock : ℕ) (bank : Bank) (row : ℕ)
         → Requested h offered log queue excused → bank_number bank < 32 → open_at (bank_number bank) (places log) ≡ None
         → IsOldestRow queue (bank_number bank) row → excused (bank_number bank) ≡ false → Excuses excused later
@@ -65,7 +65,7 @@ pub fn after_activate()
 
 /// A PREpb of a bank whose requests all lie outside its open row.
 pub fn after_precharge()
-    ensures kept { (h : Header) (offered : List Request) (log : List Step) (queue : List Waiting) (excused later : ℕ → Bool)
+    ensures requested { (h : Header) (offered : List Request) (log : List Step) (queue : List Waiting) (excused later : ℕ → Bool)
         (clock : ℕ) (bank : Bank)
         → Requested h offered log queue excused → IsMissed queue (bank_number bank) (open_at (bank_number bank) (places log)) → Excuses excused later
         → Requested h offered (record { issued = record { clock = clock; command = PrePb bank }; id = None } ∷ log) queue later }
@@ -73,7 +73,7 @@ pub fn after_precharge()
 
 /// A precharge of banks that are excused from then on, for a task or at the end, where it closes no owed bank.
 pub fn after_closing()
-    ensures kept { (h : Header) (offered : List Request) (log : List Step) (queue : List Waiting) (excused later : ℕ → Bool)
+    ensures requested { (h : Header) (offered : List Request) (log : List Step) (queue : List Waiting) (excused later : ℕ → Bool)
         (clock : ℕ) (command : Command)
         → Requested h offered log queue excused → IsTrue (is_precharge command) → SparesOwed command (places log)
         → ((b : ℕ) → b < 32 → IsTrue (covers command b) → later b ≡ true) → Excuses excused later
@@ -82,7 +82,7 @@ pub fn after_closing()
 
 /// A REF, an RFM or ECS, whose banks are closed: they need no excuse from then on.
 pub fn after_management()
-    ensures kept { (h : Header) (offered : List Request) (log : List Step) (queue : List Waiting) (excused later : ℕ → Bool)
+    ensures requested { (h : Header) (offered : List Request) (log : List Step) (queue : List Waiting) (excused later : ℕ → Bool)
         (clock : ℕ) (command : Command)
         → Requested h offered log queue excused → IsTrue (needs_closed command) → is_mrw command ≡ false → IsTrue (rule_5 command (places log))
         → ((b : ℕ) → b < 32 → excused b ≡ true → (later b ≡ true) ⊎ IsTrue (covers command b))
@@ -91,7 +91,7 @@ pub fn after_management()
 
 /// An MRW, with all banks closed.
 pub fn after_write()
-    ensures kept { (h : Header) (offered : List Request) (log : List Step) (queue : List Waiting) (excused later : ℕ → Bool)
+    ensures requested { (h : Header) (offered : List Request) (log : List Step) (queue : List Waiting) (excused later : ℕ → Bool)
         (clock : ℕ) (write : Write)
         → Requested h offered log queue excused → IsTrue (rule_5 (Mrw write) (places log)) → Excuses excused later
         → Requested h offered (record { issued = record { clock = clock; command = Mrw write }; id = None } ∷ log) queue later }
@@ -101,7 +101,7 @@ pub fn after_write()
 
 /// A request of the queue is one that was offered, and its place is inside the subchannel.
 pub fn queued()
-    ensures each { (h : Header) (offered : List Request) (log : List Step) (queue : List Waiting) (excused : ℕ → Bool) (at : ℕ) (w : Waiting)
+    ensures is_queued { (h : Header) (offered : List Request) (log : List Step) (queue : List Waiting) (excused : ℕ → Bool) (at : ℕ) (w : Waiting)
         → Requested h offered log queue excused → slice_get queue at ≡ Some w → IsQueued h offered log w }
 {}
 
@@ -123,9 +123,9 @@ pub fn serves_its_line()
 
 /// A bank is not owed where nothing hits its open row, as where nothing waits, and where it is closed.
 pub fn spared()
-    ensures missed { (h : Header) (offered : List Request) (log : List Step) (queue : List Waiting) (excused : ℕ → Bool) (b : ℕ)
+    ensures not_owed_without_a_hit { (h : Header) (offered : List Request) (log : List Step) (queue : List Waiting) (excused : ℕ → Bool) (b : ℕ)
         → Requested h offered log queue excused → b < 32 → oldest (hits b (open_at b (places log))) queue ≡ None → owed b (places log) ≡ false }
-    ensures closed { (h : Header) (offered : List Request) (log : List Step) (queue : List Waiting) (excused : ℕ → Bool) (b : ℕ)
+    ensures not_owed_while_closed { (h : Header) (offered : List Request) (log : List Step) (queue : List Waiting) (excused : ℕ → Bool) (b : ℕ)
         → Requested h offered log queue excused → b < 32 → open_at b (places log) ≡ None → owed b (places log) ≡ false }
 {}
 

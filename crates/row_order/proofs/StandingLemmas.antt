@@ -3,11 +3,9 @@ use Rattle.std.proofs.Common.{◌≡◌, ◌≢◌, ◌∙◌, ℕ, zero, suc, �
 use Rattle.std.proofs.Math.Logic.{∥∥₁_elim}
 use Rattle.std.specs.Coded.{le_prop}
 use Rattle.std.proofs.lemmas.Bool.Decides.{nat_tests, eqb_tells}
-use denote.RawPtr.{Ptr}
-use Rattle.row_order.specs.declared.pointers.Node.{Node}
 use Rattle.row_order.specs.Entries.{Entry, rising, times, count_in, without, changed, rows_with, IsNoneAbove, IsFirstGreatest}
 use Rattle.row_order.specs.Marks.{Marks, mark_of}
-use Rattle.row_order.specs.Nodes.{next_in, prev_in, level_in}
+use Rattle.row_order.specs.Nodes.{Store, next_in, prev_in, level_in}
 use Rattle.row_order.specs.Runs.{IsRun, IsBelow, AreBuckets, first_next, first_prev}
 use Rattle.row_order.specs.Standing.{Held, Keeps, StandsFor, StandsForSome, MayRaise, some}
 use Rattle.row_order.proofs.EntryLemmas.{once_inside, once_outside, once_rising, same_test, other_test, either, times_changed, count_changed_same, count_changed_other, rows_append, rows_without_other, rows_high, IsAmong, is_among, rows_below, below_without, below_append, count_below, first_greatest, none_above}
@@ -15,37 +13,43 @@ use Rattle.row_order.proofs.BucketLemmas.{gone, none_outside, buckets_taken, buc
 
 -- ---- What a list that is stood for says of the numbers held
 
-pub level_is : (it : Held) (es : List Entry) (row : ℕ) (d : Node) → StandsFor it es → row < it.rows → level_in it.nodes row d ≡ count_in es row
+pub level_is : (it : Held) (es : List Entry) (row : ℕ) → StandsFor it es → row < it.rows → level_in it.store row ≡ count_in es row
 unfolding StandsFor
-level_is it es row d s low = s.counts row d low
+level_is it es row s low = s.counts row low
 
-pub level_low : (it : Held) (row : ℕ) (d : Node) → StandsForSome it → row < it.rows → level_in it.nodes row d < it.levels
+pub level_low : (it : Held) (row : ℕ) → StandsForSome it → row < it.rows → level_in it.store row < it.levels
 unfolding StandsFor
-level_low it row d some_list low = ∥∥₁_elim some_list le_prop (λ p. go p.0 p.1)
+level_low it row some_list low = ∥∥₁_elim some_list le_prop (λ p. go p.0 p.1)
   where
-    go : (es : List Entry) → Keeps it es → level_in it.nodes row d < it.levels
-    go es s = rw (s.counts row d low) (let o = once_inside it.rows row es s.once low in count_below it.levels row es s.below (omega arith))
+    go : (es : List Entry) → Keeps it es → level_in it.store row < it.levels
+    go es s = rw (s.counts row low) (let o = once_inside it.rows row es s.once low in count_below it.levels row es s.below (omega arith))
 
-pub level_may_rise : (it : Held) (row : ℕ) (d : Node) → MayRaise it row → level_in it.nodes row d + 1 < it.levels
+pub level_may_rise : (it : Held) (row : ℕ) → MayRaise it row → level_in it.store row + 1 < it.levels
 unfolding StandsFor
-level_may_rise it row d may = ∥∥₁_elim may.below le_prop (λ p. go p.0 p.1 p.2)
+level_may_rise it row may = ∥∥₁_elim may.below le_prop (λ p. go p.0 p.1 p.2)
   where
-    go : (es : List Entry) → Keeps it es → count_in es row + 1 < it.levels → level_in it.nodes row d + 1 < it.levels
-    go es s low = rw (s.counts row d may.inside) low
+    go : (es : List Entry) → Keeps it es → count_in es row + 1 < it.levels → level_in it.store row + 1 < it.levels
+    go es s low = rw (s.counts row may.inside) low
 
 -- ---- A change
 
 -- the links of the nodes after the node of the row came out
-pub record IsUnlinked (base : Ptr) (n row : ℕ) (xs ys : List Node) : Type 0 where
-  pub next : (k : ℕ) (d : Node) → k < n → next_in base ys k d ≡ cond (nat_eq k (prev_in base xs row d)) (next_in base xs row d) (next_in base xs k d)
-  pub prev : (k : ℕ) (d : Node) → k < n → prev_in base ys k d ≡ cond (nat_eq k (next_in base xs row d)) (prev_in base xs row d) (prev_in base xs k d)
-  pub level : (k : ℕ) (d : Node) → k < n → level_in ys k d ≡ level_in xs k d
+pub record IsUnlinked (n row : ℕ) (xs ys : Store) : Type 0 where
+  pub next : (k : ℕ) → k < n → next_in ys k ≡ cond (nat_eq k (prev_in xs row)) (next_in xs row) (next_in xs k)
+  pub prev : (k : ℕ) → k < n → prev_in ys k ≡ cond (nat_eq k (next_in xs row)) (prev_in xs row) (prev_in xs k)
+  pub level : (k : ℕ) → k < n → level_in ys k ≡ level_in xs k
 
 -- and after it was put before the end of a bucket
-pub record IsAppended (base : Ptr) (n row end to : ℕ) (xs ys : List Node) : Type 0 where
-  pub next : (k : ℕ) (d : Node) → k < n → next_in base ys k d ≡ cond (nat_eq k (prev_in base xs end d)) row (cond (nat_eq k row) end (next_in base xs k d))
-  pub prev : (k : ℕ) (d : Node) → k < n → prev_in base ys k d ≡ cond (nat_eq k end) row (cond (nat_eq k row) (prev_in base xs end d) (prev_in base xs k d))
-  pub level : (k : ℕ) (d : Node) → k < n → level_in ys k d ≡ cond (nat_eq k row) to (level_in xs k d)
+pub record IsAppended (n row end to : ℕ) (xs ys : Store) : Type 0 where
+  pub next : (k : ℕ) → k < n → next_in ys k ≡ cond (nat_eq k (prev_in xs end)) row (cond (nat_eq k row) end (next_in xs k))
+  pub prev : (k : ℕ) → k < n → prev_in ys k ≡ cond (nat_eq k end) row (cond (nat_eq k row) (prev_in xs end) (prev_in xs k))
+  pub level : (k : ℕ) → k < n → level_in ys k ≡ cond (nat_eq k row) to (level_in xs k)
+
+-- the same said of the numbers of rows and levels before
+pub appended_within : (rows levels rows' levels' row count : ℕ) (xs ys : Store) → rows' ≡ rows → levels' ≡ levels → IsAppended (rows' + levels') row (rows' + count) count xs ys → IsAppended (rows + levels) row (rows + count) count xs ys
+appended_within rows levels rows' levels' row count xs ys same_rows same_levels put =
+    subst (λ (n : ℕ). IsAppended (n + levels) row (n + count) count xs ys) same_rows
+    (subst (λ (n : ℕ). IsAppended (rows' + n) row (rows' + count) count xs ys) same_levels put)
 
 some_append : (xs : List ℕ) (row : ℕ) → some (xs ++ row ∷ []) ≡ 1
 some_append [] row = refl
@@ -71,13 +75,13 @@ module _ (it : Held) (es : List Entry) (row count : ℕ) (s : Keeps it es) (insi
   one_row = once_inside it.rows row es s.once inside
 
   -- the buckets
-  buckets_changed : (mid new : List Node) (d : Node) → IsUnlinked it.base (it.rows + it.levels) row it.nodes mid → IsAppended it.base (it.rows + it.levels) row (it.rows + count) count mid new → AreBuckets (λ k. next_in it.base new k d) (λ k. prev_in it.base new k d) it.rows it.levels (changed row count es)
-  buckets_changed mid new d out put =
-      buckets_put (λ k. next_in it.base mid k d) (λ k. prev_in it.base mid k d) (λ k. next_in it.base new k d) (λ k. prev_in it.base new k d) it.rows it.levels row count (without row es)
+  buckets_changed : (mid new : Store) → IsUnlinked (it.rows + it.levels) row it.store mid → IsAppended (it.rows + it.levels) row (it.rows + count) count mid new → AreBuckets (λ k. next_in new k) (λ k. prev_in new k) it.rows it.levels (changed row count es)
+  buckets_changed mid new out put =
+      buckets_put (λ k. next_in mid k) (λ k. prev_in mid k) (λ k. next_in new k) (λ k. prev_in new k) it.rows it.levels row count (without row es)
       (gone it.rows it.levels row es s.once inside) (none_outside it.rows it.levels row es s.once inside) inside up
-      (buckets_taken it.rows it.levels row es s.once inside (λ k. next_in it.base it.nodes k d) (λ k. prev_in it.base it.nodes k d) (λ k. next_in it.base mid k d) (λ k. prev_in it.base mid k d) s.below (s.buckets d)
-      (record { next = λ k low. out.next k d low; prev = λ k low. out.prev k d low }))
-      (record { next = λ k low. put.next k d low; prev = λ k low. put.prev k d low })
+      (buckets_taken it.rows it.levels row es s.once inside (λ k. next_in it.store k) (λ k. prev_in it.store k) (λ k. next_in mid k) (λ k. prev_in mid k) s.below s.buckets
+      (record { next = λ k low. out.next k low; prev = λ k low. out.prev k low }))
+      (record { next = λ k low. put.next k low; prev = λ k low. put.prev k low })
 
   -- the rows of a level
   rows_elsewhere : (level : ℕ) → level ≢ count → rows_with level (changed row count es) ≡ rows_with level (without row es)
@@ -86,32 +90,32 @@ module _ (it : Held) (es : List Entry) (row count : ℕ) (s : Keeps it es) (insi
   rows_here : rows_with count (changed row count es) ≡ rows_with count (without row es) ++ row ∷ []
   rows_here = let a = rows_append count (without row es) (record { row = row; count = count }) in rw (same_test count count refl) at a
 
-pub stands_changed : (it new : Held) (mid : List Node) (forgot : Marks) (es : List Entry) (row before count : ℕ) (d : Node) → StandsFor it es → row < it.rows → count < it.levels → it.levels ≤ 4096
-    → new.base ≡ it.base → new.rows ≡ it.rows → new.levels ≡ it.levels → before ≡ level_in it.nodes row d
-    → IsUnlinked it.base (it.rows + it.levels) row it.nodes mid → IsAppended it.base (it.rows + it.levels) row (it.rows + count) count mid new.nodes
-    → ((k : ℕ) → k < 4096 → mark_of forgot k ≡ cond (nat_eq k before) (cond (nat_lt (next_in it.base new.nodes (it.rows + before) d) it.rows) (mark_of it.used k) 0) (mark_of it.used k))
+pub stands_changed : (it new : Held) (mid : Store) (forgot : Marks) (es : List Entry) (row before count : ℕ) → StandsFor it es → row < it.rows → count < it.levels → it.levels ≤ 4096
+    → new.rows ≡ it.rows → new.levels ≡ it.levels → before ≡ level_in it.store row
+    → IsUnlinked (it.rows + it.levels) row it.store mid → IsAppended (it.rows + it.levels) row (it.rows + count) count mid new.store
+    → ((k : ℕ) → k < 4096 → mark_of forgot k ≡ cond (nat_eq k before) (cond (nat_lt (next_in new.store (it.rows + before)) it.rows) (mark_of it.used k) 0) (mark_of it.used k))
     → ((k : ℕ) → k < 4096 → mark_of new.used k ≡ cond (nat_eq k count) 1 (mark_of forgot k))
     → StandsFor new (changed row count es)
 unfolding StandsFor
-stands_changed it new mid forgot es row before count d s inside up few base rows levels was out put forgets marks = record {
+stands_changed it new mid forgot es row before count s inside up few rows levels was out put forgets marks = record {
   once = λ other. rw rows (times_changed row other count es one ∙ s.once other);
   below = rw levels (below_append it.levels (without row es) (record { row = row; count = count }) (below_without it.levels row es s.below) up);
-  counts = λ other e low. counts other e (rw rows at low) (eqb_tells other row);
-  buckets = λ e. rw (base, rows, levels) (buckets_changed it es row count s inside up mid new.nodes e out put);
+  counts = λ other low. counts other (rw rows at low) (eqb_tells other row);
+  buckets = rw (rows, levels) (buckets_changed it es row count s inside up mid new.store out put);
   used = λ level low. used level low (eqb_tells level count) (eqb_tells level (count_in es row));
 }
   where
     one : times row es ≡ 1
     one = once_inside it.rows row es s.once inside
 
-    counts : (other : ℕ) (e : Node) → other < it.rows → ((nat_eq other row ≡ true) × (other ≡ row)) ⊎ ((nat_eq other row ≡ false) × (other ≢ row)) → level_in new.nodes other e ≡ count_in (changed row count es) other
-    counts other e low (inl p) = put.level other e (omega arith) ∙ rw (p.0, p.1) (sym (count_changed_same row count es one))
-    counts other e low (inr p) =
+    counts : (other : ℕ) → other < it.rows → ((nat_eq other row ≡ true) × (other ≡ row)) ⊎ ((nat_eq other row ≡ false) × (other ≢ row)) → level_in new.store other ≡ count_in (changed row count es) other
+    counts other low (inl p) = put.level other (omega arith) ∙ rw (p.0, p.1) (sym (count_changed_same row count es one))
+    counts other low (inr p) =
         let some_times : 0 < times other es = (let o = once_inside it.rows other es s.once low in omega arith) in
-        put.level other e (omega arith) ∙ rw p.0 (out.level other e (omega arith) ∙ (s.counts other e low ∙ sym (count_changed_other row other count es p.1 some_times)))
+        put.level other (omega arith) ∙ rw p.0 (out.level other (omega arith) ∙ (s.counts other low ∙ sym (count_changed_other row other count es p.1 some_times)))
 
     was_own : before ≡ count_in es row
-    was_own = was ∙ s.counts row d inside
+    was_own = was ∙ s.counts row inside
 
     own_low : count_in es row < it.levels
     own_low = count_below it.levels row es s.below (let o = one in omega arith)
@@ -132,16 +136,16 @@ stands_changed it new mid forgot es row before count d s inside up few base rows
         here ∙ (there ∙ (s.used level low ∙ ap some (sym (rows_elsewhere it es row count s inside up level p.1 ∙ rows_without_other level row es (λ e. q.1 (sym e))))))
     used level low (inr p) (inl q) =
         let here : mark_of new.used level ≡ mark_of forgot level = rw p.0 at (marks level low) in
-        let there : mark_of forgot level ≡ cond (nat_lt (next_in it.base new.nodes (it.rows + count_in es row) d) it.rows) (mark_of it.used level) 0 = rw (was_own, q.0) at (forgets level low) in
-        let run = buckets_changed it es row count s inside up mid new.nodes d out put (count_in es row) own_low in
-        here ∙ (there ∙ rw q.1 (some_first (λ k. next_in it.base new.nodes k d) (λ k. prev_in it.base new.nodes k d) it.rows (it.rows + count_in es row) (mark_of it.used (count_in es row)) (rows_with (count_in es row) (changed row count es)) (omega arith) (members (count_in es row)) run own_marked))
+        let there : mark_of forgot level ≡ cond (nat_lt (next_in new.store (it.rows + count_in es row)) it.rows) (mark_of it.used level) 0 = rw (was_own, q.0) at (forgets level low) in
+        let run = buckets_changed it es row count s inside up mid new.store out put (count_in es row) own_low in
+        here ∙ (there ∙ rw q.1 (some_first (λ k. next_in new.store k) (λ k. prev_in new.store k) it.rows (it.rows + count_in es row) (mark_of it.used (count_in es row)) (rows_with (count_in es row) (changed row count es)) (omega arith) (members (count_in es row)) run own_marked))
 
 -- ---- The start
 
 pub stands_rising : (it : Held) (empty : Marks) (rows levels : ℕ) → it.rows ≡ rows → it.levels ≡ levels → 0 < rows → 0 < levels
-    → ((k : ℕ) (d : Node) → k < rows + levels → next_in it.base it.nodes k d ≡ first_next rows k)
-    → ((k : ℕ) (d : Node) → k < rows + levels → prev_in it.base it.nodes k d ≡ first_prev rows k)
-    → ((k : ℕ) (d : Node) → k < rows + levels → level_in it.nodes k d ≡ 0)
+    → ((k : ℕ) → k < rows + levels → next_in it.store k ≡ first_next rows k)
+    → ((k : ℕ) → k < rows + levels → prev_in it.store k ≡ first_prev rows k)
+    → ((k : ℕ) → k < rows + levels → level_in it.store k ≡ 0)
     → ((k : ℕ) → k < 4096 → mark_of empty k ≡ 0)
     → ((k : ℕ) → k < 4096 → mark_of it.used k ≡ cond (nat_eq k 0) 1 (mark_of empty k))
     → StandsFor it (rising rows)
@@ -149,8 +153,8 @@ unfolding StandsFor
 stands_rising it empty rows levels same_rows same_levels some_rows some_levels next prev level none marks = record {
   once = λ row. rw same_rows (once_rising rows row);
   below = rw same_levels (below_rising levels 0 rows some_levels);
-  counts = λ row d low. level row d (let l = rw same_rows at low in omega (arith, l)) ∙ sym (counts_rising row 0 rows);
-  buckets = λ d. rw (same_rows, same_levels) (buckets_rising (λ k. next_in it.base it.nodes k d) (λ k. prev_in it.base it.nodes k d) rows levels some_rows (λ k low. next k d low) (λ k low. prev k d low));
+  counts = λ row low. level row (let l = rw same_rows at low in omega (arith, l)) ∙ sym (counts_rising row 0 rows);
+  buckets = rw (same_rows, same_levels) (buckets_rising (λ k. next_in it.store k) (λ k. prev_in it.store k) rows levels some_rows next prev);
   used = λ k low. used k low;
 }
   where
@@ -227,31 +231,27 @@ top_is it es top s some_rows few inside highest = record {
     none level low g (inr e) = absurd (let h = (highest level (omega arith) (s.used level (omega arith) ∙ e)).0 in omega arith)
 
 -- what the first node of that bucket is
-pub top_first : (it : Held) (es : List Entry) (top : ℕ) (d : Node) → Keeps it es → (t : IsTop it es top) → next_in it.base it.nodes (it.rows + top) d ≡ t.row
-top_first it es top d s t = (subst (λ (xs : List ℕ). IsRun (λ k. next_in it.base it.nodes k d) (λ k. prev_in it.base it.nodes k d) (it.rows + top) xs (it.rows + top)) t.rows (s.buckets d top t.inside)).0
+pub top_first : (it : Held) (es : List Entry) (top : ℕ) → Keeps it es → (t : IsTop it es top) → next_in it.store (it.rows + top) ≡ t.row
+top_first it es top s t = (subst (λ (xs : List ℕ). IsRun (λ k. next_in it.store k) (λ k. prev_in it.store k) (it.rows + top) xs (it.rows + top)) t.rows (s.buckets top t.inside)).0
 
-pub greatest_is : (it : Held) (es : List Entry) (top row : ℕ) (d : Node) → StandsFor it es → 0 < it.rows → it.levels ≤ 4096 → top < 4096 → ((k : ℕ) → k < 4096 → mark_of it.used k ≡ 1 → (k ≤ top) × (mark_of it.used top ≡ 1)) → row ≡ next_in it.base it.nodes (it.rows + top) d → IsFirstGreatest es (record { row = row; count = top })
+pub greatest_is : (it : Held) (es : List Entry) (top row : ℕ) → StandsFor it es → 0 < it.rows → it.levels ≤ 4096 → top < 4096 → ((k : ℕ) → k < 4096 → mark_of it.used k ≡ 1 → (k ≤ top) × (mark_of it.used top ≡ 1)) → row ≡ next_in it.store (it.rows + top) → IsFirstGreatest es (record { row = row; count = top })
 unfolding StandsFor
-greatest_is it es top row d s some_rows few inside highest is =
+greatest_is it es top row s some_rows few inside highest is =
     let t = top_is it es top s some_rows few inside highest in
-    let e : t.row ≡ row = sym (is ∙ top_first it es top d s t) in
+    let e : t.row ≡ row = sym (is ∙ top_first it es top s t) in
     subst (λ (r : ℕ). IsFirstGreatest es (record { row = r; count = top })) e (first_greatest top t.row t.rest es t.none_above t.rows)
 
 pub top_level : (it : Held) (top : ℕ) → StandsForSome it → 0 < it.rows → it.levels ≤ 4096 → top < 4096 → ((k : ℕ) → k < 4096 → mark_of it.used k ≡ 1 → (k ≤ top) × (mark_of it.used top ≡ 1)) → top < it.levels
 unfolding StandsFor
 top_level it top some_list some_rows few inside highest = ∥∥₁_elim some_list le_prop (λ p. (top_is it p.0 top p.1 some_rows few inside highest).inside)
 
-pub top_row : (it : Held) (top : ℕ) (d : Node) → StandsForSome it → 0 < it.rows → it.levels ≤ 4096 → top < 4096 → ((k : ℕ) → k < 4096 → mark_of it.used k ≡ 1 → (k ≤ top) × (mark_of it.used top ≡ 1)) → next_in it.base it.nodes (it.rows + top) d < it.rows
+pub top_row : (it : Held) (top : ℕ) → StandsForSome it → 0 < it.rows → it.levels ≤ 4096 → top < 4096 → ((k : ℕ) → k < 4096 → mark_of it.used k ≡ 1 → (k ≤ top) × (mark_of it.used top ≡ 1)) → next_in it.store (it.rows + top) < it.rows
 unfolding StandsFor
-top_row it top d some_list some_rows few inside highest = ∥∥₁_elim some_list le_prop (λ p. go p.0 p.1)
+top_row it top some_list some_rows few inside highest = ∥∥₁_elim some_list le_prop (λ p. go p.0 p.1)
   where
-    go : (es : List Entry) → Keeps it es → next_in it.base it.nodes (it.rows + top) d < it.rows
-    go es s = let t = top_is it es top s some_rows few inside highest in rw (top_first it es top d s t) t.low
+    go : (es : List Entry) → Keeps it es → next_in it.store (it.rows + top) < it.rows
+    go es s = let t = top_is it es top s some_rows few inside highest in rw (top_first it es top s t) t.low
 
 pub is_level : (count levels : ℕ) → 0 < levels → (0 < count → count < levels) → count < levels
 is_level zero levels some low = some
 is_level (suc count) levels some low = low (omega arith)
-
--- some node, where it does not matter which
-abbrev pub blank : Ptr → Node
-blank p = record { before = p; after = p; row = 0; count = 0 }

@@ -1,6 +1,6 @@
 pub mod Entries
 pub mod Marks
-pub mod Places
+pub mod Blocks
 pub mod Nodes
 pub mod Runs
 pub mod Standing

@@ -1,23 +1,20 @@
 -- What a row order says of its list.
 use Rattle.std.specs.Prelude.{◌≡◌, ℕ, ◌+◌, ◌<◌, nat_lt, if◌then◌else◌, List, [], ◌∷◌}
-use denote.RawPtr.{Ptr, null_ptr}
-use Rattle.row_order.specs.declared.pointers.Node.{Node}
 use Rattle.row_order.specs.Entries.{Entry, times, count_in, rows_with, IsEachBelow}
 use Rattle.row_order.specs.Marks.{Marks, mark_of}
-use Rattle.row_order.specs.Nodes.{next_in, prev_in, level_in}
+use Rattle.row_order.specs.Nodes.{Store, next_in, prev_in, level_in}
 use Rattle.row_order.specs.Runs.{AreBuckets}
 
--- how many rows and levels there are, the nodes and where they lie, and the levels whose buckets are not empty
+-- how many rows and levels there are, the nodes, and the levels whose buckets are not empty
 pub record Held : Type 0 where
   pub rows : ℕ
   pub levels : ℕ
-  pub base : Ptr
-  pub nodes : List Node
+  pub store : Store
   pub used : Marks
 
 -- what a place of a list that has none reads as: an order of no rows
 abbrev pub no_order : Held
-no_order = record { rows = 0; levels = 0; base = null_ptr; nodes = []; used = record { words = []; filled = 0 } }
+no_order = record { rows = 0; levels = 0; store = record { rows = 0; places = []; pool = []; ends = [] }; used = record { words = []; filled = 0 } }
 
 -- 1 if there are rows, otherwise 0
 abbrev pub some : List ℕ → ℕ
@@ -27,8 +24,8 @@ some (r ∷ rs) = 1
 pub record Keeps (it : Held) (es : List Entry) : Type 0 where
   pub once : (row : ℕ) → times row es ≡ (if nat_lt row it.rows then 1 else 0)
   pub below : IsEachBelow it.levels es
-  pub counts : (row : ℕ) (d : Node) → row < it.rows → level_in it.nodes row d ≡ count_in es row
-  pub buckets : (d : Node) → AreBuckets (λ k. next_in it.base it.nodes k d) (λ k. prev_in it.base it.nodes k d) it.rows it.levels es
+  pub counts : (row : ℕ) → row < it.rows → level_in it.store row ≡ count_in es row
+  pub buckets : AreBuckets (λ k. next_in it.store k) (λ k. prev_in it.store k) it.rows it.levels es
   pub used : (level : ℕ) → level < 4096 → mark_of it.used level ≡ some (rows_with level es)
 
 -- the row order stands for the list: each row stands in it once, with the count of its node; the bucket of each level

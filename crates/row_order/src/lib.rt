@@ -1,11 +1,12 @@
 //! The rows of a bank in the order of their last change, in buckets by count: each change, and the first row with the
-//! greatest count, in constant time. The rows are nodes of one block, linked by raw pointers.
+//! greatest count, in constant time. The rows are nodes that name each other by number.
 #![tactic(auto)]
 
+mod blocks;
 mod levels;
 mod links;
+mod nodes;
 mod order;
-mod pointers;
 
 pub use order::{RowOrder, same_counts, stands};
 

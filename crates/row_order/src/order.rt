@@ -2,8 +2,7 @@
 ghost use Rattle.std.specs.Prelude.{ℕ, ◌≡◌, ◌<◌, ◌≤◌, ◌+◌, List, IfOk, nat_eq, nat_lt, if◌then◌else◌};
 ghost use Rattle.row_order.specs.Entries.{Entry, IsFirstGreatest, changed, count_in, rising};
 ghost use Rattle.row_order.specs.Marks.{mark_of};
-ghost use Rattle.row_order.specs.Nodes.{next_in};
-ghost use Rattle.row_order.specs.declared.pointers.Node.{Node as NodeValue};
+ghost use Rattle.row_order.specs.Nodes.{store_of, next_in};
 ghost use Rattle.row_order.specs.Standing.{Held, MayRaise, StandsFor, StandsForSome};
 
 use crate::levels::LevelSet;
@@ -23,13 +22,14 @@ pub struct RowOrder {
 }
 
 impl Model for RowOrder {
+    ghost use Rattle.row_order.specs.Nodes.{store_of};
     ghost use Rattle.row_order.specs.Standing.{Held, StandsForSome};
 
     ghost Value = { Held };
 
-    ghost view = { λ s. record { rows = s.links.rows; levels = s.links.levels; base = s.links.base; nodes = s.links.nodes.items; used = s.used } };
+    ghost view = { λ s. record { rows = s.links.nodes.rows; levels = s.links.nodes.levels; store = store_of s.links.nodes; used = s.used } };
 
-    ghost invariant = { λ s. StandsForSome (record { rows = s.links.rows; levels = s.links.levels; base = s.links.base; nodes = s.links.nodes.items; used = s.used }) };
+    ghost invariant = { λ s. StandsForSome (record { rows = s.links.nodes.rows; levels = s.links.nodes.levels; store = store_of s.links.nodes; used = s.used }) };
 }
 
 impl RowOrder {
@@ -115,8 +115,8 @@ pub fn same_counts()
 
 // A level whose bucket is empty is no longer one in use.
 fn forget_if_empty(links: &Links, used: &mut LevelSet, level: u32)
-    requires { level < links.now.levels }
-    ensures { (k : ℕ) (d : NodeValue) → k < 4096 → mark_of used.new k ≡ (if nat_eq k level then (if nat_lt (next_in links.now.base links.now.nodes.items (links.now.rows + level) d) links.now.rows then mark_of used.old k else 0) else mark_of used.old k) }
+    requires { level < links.now.nodes.levels }
+    ensures { (k : ℕ) → k < 4096 → mark_of used.new k ≡ (if nat_eq k level then (if nat_lt (next_in (store_of links.now.nodes) (links.now.nodes.rows + level)) links.now.nodes.rows then mark_of used.old k else 0) else mark_of used.old k) }
 {
     if links.first(level) >= links.rows() {
         used.remove(level);

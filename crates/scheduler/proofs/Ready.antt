@@ -43,7 +43,7 @@ pub right_of : (laws : Laws) (c : State) (from until : ℕ) (finished : Bool) (h
 right_of laws c from until finished h offered idle log clock command id next queue r =
     let k = kept_of laws c from until finished h offered idle log clock command id next queue r in
     let e : IsTrue (rule_11 h command (places log)) = eleventh (is_rfm_all command) (is_wanted h command (places log)) (alert h (places log)) k.raised in
-    none_failing 1 (rules_at h clock command (places log)) (r.follows.rises, (r.follows.gaps, (r.follows.window, (r.fits.fourth, (r.fits.fifth, (k.sixth, (k.seventh, (k.eighth, (r.ninth, (r.tenth, (e, (r.twelfth, (k.thirteenth, (r.fourteenth, tt))))))))))))))
+    none_failing 1 (rules_at h clock command (places log)) (r.follows.rises, (r.follows.gaps, (r.follows.window, (r.fits.fourth, (r.fits.fifth, (k.refreshes_in_time, (k.refreshes_evenly, (k.scrubs_in_step, (r.ninth, (r.tenth, (e, (r.twelfth, (k.answers_the_alert, (r.fourteenth, tt))))))))))))))
 
 pub ledger_of : (c : State) (from until : ℕ) (finished : Bool) (h : Header) (offered : List Request) (idle : ℕ) (log : List Step) (clock : ℕ) (command : Command) (id : Option ℕ) (next : Option Task) (queue : List Waiting) → IsReady c from until finished h offered idle log clock command id next queue → LedgerStandsFor c.ledger h (places log)
 ledger_of c from until finished h offered idle log clock command id next queue r =
@@ -59,7 +59,7 @@ pub suits_of : (laws : Laws) (c : State) (from until : ℕ) (finished : Bool) (h
 suits_of laws c from until finished h offered idle log clock command id next queue r =
     let k = kept_of laws c from until finished h offered idle log clock command id next queue r in record {
       late = r.late;
-      follows = record { spaced = r.follows; fits = r.fits; allowed = record { sixth = k.sixth; seventh = k.seventh; eighth = k.eighth }; counted = r.ninth };
+      follows = record { spaced = r.follows; fits = r.fits; allowed = record { refreshes_in_time = k.refreshes_in_time; refreshes_evenly = k.refreshes_evenly; scrubs_in_step = k.scrubs_in_step }; counted = r.ninth };
       spares = r.spares;
     }
 

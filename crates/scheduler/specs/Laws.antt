@@ -29,10 +29,10 @@ use Rattle.deadlines.specs.declared.task.Task.{Task}
 -- what a turn that issues a place gives
 pub record Kept (h : Header) (log : Log) (next : Option Task) (until idle : ℕ) (later : List ℕ) (n : ℕ) (place : Issued) : Type 0 where
   pub keeps : Keeps h (place ∷ log) next (place.clock + 1) until idle later n
-  pub sixth : IsTrue (rule_6 h place.clock place.command log)
-  pub seventh : IsTrue (rule_7 place.command log)
-  pub eighth : IsTrue (rule_8 h place.command log)
-  pub thirteenth : IsTrue (rule_13 h place.clock log)
+  pub refreshes_in_time : IsTrue (rule_6 h place.clock place.command log)
+  pub refreshes_evenly : IsTrue (rule_7 place.command log)
+  pub scrubs_in_step : IsTrue (rule_8 h place.command log)
+  pub answers_the_alert : IsTrue (rule_13 h place.clock log)
   pub raised : is_rfm_all place.command ≡ true → alert h log ≡ None → ⊥
   pub owing : (address : ℕ) → address < 4 → refreshes address place.command ≡ true → refs address log + 2 ≤ place.clock / h.timing.nrefi
 

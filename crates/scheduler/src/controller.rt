@@ -82,14 +82,14 @@ impl Controller {
     pub fn offer(&mut self, request: Request) -> Result<RequestId, Request>
         requires unfinished { finished_of self.old ≡ false }
         requires inside { request.line < lines_of (shape_of (header_of self.old)) }
-        ensures ok { IfOk result (λ id. (h : AnyHeader) (offered : List AnyRequest) (idle : ℕ) (log : List Step) → StandsFor h self.old offered idle log
+        ensures stands { IfOk result (λ id. (h : AnyHeader) (offered : List AnyRequest) (idle : ℕ) (log : List Step) → StandsFor h self.old offered idle log
             → StandsFor h self.new (offered ++ request ∷ []) idle log) }
         ensures number { IfOk result (λ id. (h : AnyHeader) (offered : List AnyRequest) (idle : ℕ) (log : List Step) → StandsFor h self.old offered idle log
             → id.0 ≡ length offered + 1) }
         ensures full { (h : AnyHeader) (offered : List AnyRequest) (idle : ℕ) (log : List Step) → StandsFor h self.old offered idle log
             → (IsErr result ↔ IsFull (length offered) (waiting h offered log)) }
         ensures back { IfErr result (λ it. it ≡ request) }
-        ensures err { OnErr result (self.new ≡ self.old) }
+        ensures unchanged { OnErr result (self.new ≡ self.old) }
         ensures header { header_of self.new ≡ header_of self.old }
         ensures from { from_of self.new ≡ from_of self.old }
         ensures until { until_of self.new ≡ until_of self.old }

@@ -21,9 +21,9 @@ impl State {
     fn must_back_off(&self, choice: Option<Candidate>, soonest: Clock) -> bool
         requires small { soonest < 2 ^ 48 }
         requires timing { IsTiming self.now.header.timing }
-        ensures yes { (h : AnyHeader) (offered : List AnyRequest) (idle : ℕ) (log : List Step) → IsAwake self.now h offered idle log → result ≡ true → IsSome (alert_of h (places log)) }
+        ensures backs_off { (h : AnyHeader) (offered : List AnyRequest) (idle : ℕ) (log : List Step) → IsAwake self.now h offered idle log → result ≡ true → IsSome (alert_of h (places log)) }
         ensures urged { (h : AnyHeader) (offered : List AnyRequest) (idle : ℕ) (log : List Step) (raised : ℕ) → IsAwake self.now h offered idle log → result ≡ true → alert_of h (places log) ≡ Some raised → Urges self.now h (places log) choice soonest raised }
-        ensures no { (h : AnyHeader) (offered : List AnyRequest) (idle : ℕ) (log : List Step) → IsAwake self.now h offered idle log → result ≡ false → IsPatient self.now h (places log) choice soonest }
+        ensures stays_patient { (h : AnyHeader) (offered : List AnyRequest) (idle : ℕ) (log : List Step) → IsAwake self.now h offered idle log → result ≡ false → IsPatient self.now h (places log) choice soonest }
     {
         let Some(last) = self.alert.last_activate(&self.header.timing) else {
             return false;

@@ -62,7 +62,7 @@ pub fn one_turn()
 pub fn in_order()
     ensures lines { (h : AnyHeader) (c : AnyController) (offered : List AnyRequest) (idle : ℕ) (log : List Step) → StandsFor h c offered idle log
         → IsInOrder h offered log }
-    ensures once { (h : AnyHeader) (c : AnyController) (offered : List AnyRequest) (idle : ℕ) (log : List Step) → StandsFor h c offered idle log
+    ensures served_once { (h : AnyHeader) (c : AnyController) (offered : List AnyRequest) (idle : ℕ) (log : List Step) → StandsFor h c offered idle log
         → AreServedOnce log }
     ensures serving { (h : AnyHeader) (c : AnyController) (offered : List AnyRequest) (idle : ℕ) (log : List Step) → StandsFor h c offered idle log
         → AllServing h offered log }
@@ -129,14 +129,14 @@ pub fn limits()
 pub fn passed()
     ensures newest { (h : AnyHeader) (c : AnyController) (offered : List AnyRequest) (idle : ℕ) (step : Step) (log : List Step) → StandsFor h c offered idle (step ∷ log)
         → step.issued.clock < from_of c }
-    ensures near { (h : AnyHeader) (c : AnyController) (offered : List AnyRequest) (idle : ℕ) (log : List Step) → StandsFor h c offered idle log
+    ensures below_the_limit { (h : AnyHeader) (c : AnyController) (offered : List AnyRequest) (idle : ℕ) (log : List Step) → StandsFor h c offered idle log
         → from_of c < 2 ^ 48 }
 {}
 
 /// Where fewer requests than ATH were offered, no alert is raised.
 #[tactic(auto, unfolding(crate::specs::Controller::StandsFor))]
 pub fn unraised()
-    ensures calm { (h : AnyHeader) (c : AnyController) (offered : List AnyRequest) (idle : ℕ) (log : List Step) → StandsFor h c offered idle log
+    ensures raises_no_alert { (h : AnyHeader) (c : AnyController) (offered : List AnyRequest) (idle : ℕ) (log : List Step) → StandsFor h c offered idle log
         → length offered < h.settings.ath → alert h (places log) ≡ None }
 {
     requests::laws::activations();

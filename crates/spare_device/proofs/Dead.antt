@@ -1,16 +1,16 @@
 -- One of five devices is dead: its part is made of the others.
-use Rattle.std.proofs.Common.{◌≡◌, ℕ, zero, suc, ◌<◌, ◌==◌, ◌++◌, inl, inr, Bool, true, false, cond, List, refl, sym, ap, ◌∙◌, arith, append_assoc}
+use Rattle.std.proofs.Common.{◌≡◌, ℕ, zero, suc, ◌<◌, ◌==◌, inl, Bool, true, false, cond, List, refl, sym, ap, ◌∙◌, arith}
 use Rattle.std.proofs.lemmas.Bool.{eqb-true}
 use Rattle.ondie_ecc.specs.Bits.{IsBytes}
-use Rattle.ondie_ecc.specs.declared.state.ReadState.{ReadState}
-use Rattle.ondie_ecc.specs.declared.state.ReadState.TheVariants.{Clean, Fixed, Lost}
 use Rattle.error_scrub.specs.Changes.{Change}
 use Rattle.error_scrub.specs.Reading.{IsGood, data_read, state_of, worse}
 use Rattle.error_scrub.specs.Tame.{AreGiven, last_written}
 use Rattle.spare_device.specs.Spare.{IsTameBut, held_by, live, mixed, mixed_four, read_words, rebuilt, spare_of, spare_reading, stored_word}
-use Rattle.spare_device.proofs.Bytes.{part, parts, sixteen, last-bytes}
+use Rattle.error_scrub.proofs.LineBytes.{part, sixteen, last-bytes}
 use Rattle.spare_device.proofs.Mixed.{first, fourth, mixed-bytes, second, third}
-use Rattle.spare_device.proofs.Near.{IsRead, Repairs, word-read}
+use Rattle.device_core.proofs.NearWords.{IsRead, Repairs}
+use Rattle.device_core.proofs.TameLines.{good-worse, parts-read}
+use Rattle.spare_device.proofs.Near.{word-read}
 
 abbrev repaired : List Change → ℕ → ℕ → List ℕ
 repaired changes line device = data_read (stored_word changes line device)
@@ -86,21 +86,6 @@ each-part laws dead changes line device low given tame true e =
     dead-part laws dead (omega (arith, same, low)) changes line given tame ∙ ap (part (last_written changes line)) (sym same)
 each-part laws dead changes line device low given tame false e =
     (live-read laws dead changes line device (omega (arith, low)) given tame e).bytes_are ∙ held-part (last_written changes line) device low
-
--- four parts that were read are the line
-parts-read : (bytes a b c d : List ℕ) → IsBytes 64 bytes → a ≡ part bytes 0 → b ≡ part bytes 1 → c ≡ part bytes 2 → d ≡ part bytes 3 → ((a ++ b) ++ c) ++ d ≡ bytes
-parts-read bytes a b c d whole e f g h =
-    ap (λ x. ((x ++ b) ++ c) ++ d) e ∙ ap (λ x. ((part bytes 0 ++ x) ++ c) ++ d) f ∙ ap (λ x. ((part bytes 0 ++ part bytes 1) ++ x) ++ d) g ∙ ap (λ x. ((part bytes 0 ++ part bytes 1) ++ part bytes 2) ++ x) h
-    ∙ append_assoc (part bytes 0 ++ part bytes 1) (part bytes 2) (part bytes 3)
-    ∙ append_assoc (part bytes 0) (part bytes 1) (part bytes 2 ++ part bytes 3)
-    ∙ parts bytes whole.counted
-
-good-worse : (a b : ReadState) → IsGood a → IsGood b → IsGood (worse a b)
-good-worse Clean b h k = k
-good-worse Fixed Clean h k = inr refl
-good-worse Fixed Fixed h k = inr refl
-good-worse Fixed Lost h k = k
-good-worse Lost b h k = h
 
 -- the reading of a line that is tame but for the dead device
 pub record IsWhole (dead : ℕ) (changes : List Change) (line : ℕ) : Type 0 where

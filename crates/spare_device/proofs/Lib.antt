@@ -1,5 +1,4 @@
 pub mod Acting
-pub mod Bytes
 pub mod Dead
 pub mod Looping
 pub mod Mixed

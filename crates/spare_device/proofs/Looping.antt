@@ -11,6 +11,7 @@ use Rattle.ddr_io.specs.Sink.{AppendsPrefix}
 use Rattle.ddr_io.specs.declared.line_reader.Line.TheVariants.{Text as TextAnswer}
 use Rattle.ddr_io.specs.declared.status.Status.{Status}
 use Rattle.ddr_io.specs.declared.status.Status.TheVariants as status
+use Rattle.ddr_text.specs.Io.{io}
 use Rattle.ddr_text.specs.Spelling.{spelled}
 use Rattle.ddr_text.specs.declared.lines.ReportLine.{ReportLine}
 use Rattle.ddr_text.specs.declared.lines.ReportLine.TheVariants.{End as EndLine, Refused as RefusedLine}
@@ -117,15 +118,15 @@ begins dead h (Some bytes) (Some left) before after lines reads script it contin
     )
 
 -- the source had a fault
-pub runs_fault : (dead : ℕ) (h : Header) (start left old new before after : Option (List ℕ)) (it : Place) (device : CheckedDevice) → RunsSoFar dead h start it left device before after → AnswersAs (IsRunBehind dead h start) status.ReadFault old new before after
+pub runs_fault : (dead : ℕ) (h : Header) (start left old new before after : Option (List ℕ)) (it : Place) (device : CheckedDevice) → RunsSoFar dead h start it left device before after → AnswersAs (IsRunBehind dead h start) status.ReadFault (io old new before after)
 runs_fault dead h start left old new before after it device r = begins dead h start left before after r.lines r.reads r.script it r.continued (prefix-whole before after (flat_map spelled r.lines) r.written)
 
 -- a line could not be carried out, or not be written
 pub runs_cut : (dead : ℕ) (h : Header) (start now after old end before middle later : Option (List ℕ)) (it new : Place) (device changed : CheckedDevice) (line : ScriptLine) (stop : Stop) (faults risen : ℕ) (r : RunsSoFar dead h start it now device before middle) → IsStep it new now after (Line line)
-    → Acts dead (Err stop) (acted (five_devices dead) h r.script line) h changed middle later → WriteCause faults risen stop → AnswersAs (IsRunBehind dead h start) (status_of stop) old end before later
+    → Acts dead (Err stop) (acted (five_devices dead) h r.script line) h changed middle later → WriteCause faults risen stop → AnswersAs (IsRunBehind dead h start) (status_of stop) (io old end before later)
 runs_cut dead h start now after old end before middle later it new device changed line stop faults risen r step acts cause = go (acted (five_devices dead) h r.script line) refl acts
   where
-    go : (e : Effect) → acted (five_devices dead) h r.script line ≡ e → Acts dead (Err stop) e h changed middle later → AnswersAs (IsRunBehind dead h start) (status_of stop) old end before later
+    go : (e : Effect) → acted (five_devices dead) h r.script line ≡ e → Acts dead (Err stop) e h changed middle later → AnswersAs (IsRunBehind dead h start) (status_of stop) (io old end before later)
     go (Moves more got next) is cut =
         let s = begins dead h start after before later (r.lines ++ more) (r.reads ++ got) next new (continues_line dead h start now after r.lines more r.reads got r.script next it new line r.continued step is)
         (subst (AppendsPrefix before later) (sym (flat_map-append spelled r.lines more)) (prefix-behind before middle later (flat_map spelled r.lines) (flat_map spelled more) r.written cut)) in
@@ -147,10 +148,10 @@ ends_with dead h (Some bytes) (Some left) lines reads script it text whole conti
 
 -- a rule is broken
 pub runs_broken : (dead : ℕ) (h : Header) (start now after old end before middle later : Option (List ℕ)) (it new : Place) (device changed : CheckedDevice) (line : ScriptLine) (rule : Rule) (number : ℕ) (answer : Status) (wrote : Option (List ℕ)) (r : RunsSoFar dead h start it now device before middle) → IsStep it new now after (Line line) → number ≡ it.number
-    → Acts dead (Ok (Some rule)) (acted (five_devices dead) h r.script line) h changed middle wrote → Closes status.Broken answer (broken_text number rule.0) wrote later → AnswersAs (IsRunBehind dead h start) answer old end before later
+    → Acts dead (Ok (Some rule)) (acted (five_devices dead) h r.script line) h changed middle wrote → Closes status.Broken answer (broken_text number rule.0) wrote later → AnswersAs (IsRunBehind dead h start) answer (io old end before later)
 runs_broken dead h start now after old end before middle later it new device changed line rule number answer wrote r step numbered acts closes = go (acted (five_devices dead) h r.script line) refl acts
   where
-    go : (e : Effect) → acted (five_devices dead) h r.script line ≡ e → Acts dead (Ok (Some rule)) e h changed middle wrote → AnswersAs (IsRunBehind dead h start) answer old end before later
+    go : (e : Effect) → acted (five_devices dead) h r.script line ≡ e → Acts dead (Ok (Some rule)) e h changed middle wrote → AnswersAs (IsRunBehind dead h start) answer (io old end before later)
     go (Moves more got next) is acts = absurd acts
     go (Breaks own) is (same, kept) =
         let number_is : r.script.number ≡ number = sym r.numbered ∙ sym numbered in
@@ -165,7 +166,7 @@ runs_broken dead h start now after old end before middle later it new device cha
 
 -- a line is refused
 pub runs_refused : (dead : ℕ) (h : Header) (start left next old end before middle after : Option (List ℕ)) (it new : Place) (device : CheckedDevice) (number reason : ℕ) (answer : Status) (r : RunsSoFar dead h start it left device before middle) → IsStep it new left next (RefusedNext number reason)
-    → RefusesLine answer number reason middle after → AnswersAs (IsRunBehind dead h start) answer old end before after
+    → RefusesLine answer number reason middle after → AnswersAs (IsRunBehind dead h start) answer (io old end before after)
 runs_refused dead h start left next old end before middle after it new device number reason answer r step refuses =
     closed (IsRunBehind dead h start) status.Refused answer (flat_map spelled r.lines) (spelled (RefusedLine number reason)) old end before middle after
     (ends_with dead h start left r.lines r.reads r.script it (spelled (RefusedLine number reason)) status.Refused r.continued
@@ -182,7 +183,7 @@ all_read dead it new (Some bytes) end None kept held h lines reads script clock 
 all_read dead it new (Some bytes) end (Some xs) kept held h lines reads script clock continued step = none-left held end step.0
 
 pub runs_ended : (dead : ℕ) (h : Header) (old end left before middle after : Option (List ℕ)) (kept held : List ℕ) (it new : Place) (device : CheckedDevice) (clock : ℕ) (answer : Status) (r : RunsSoFar dead h (next_bytes kept old) it left device before middle) → IsStep it new left (next_bytes held end) (EndNext clock)
-    → Closes status.Ok answer (flat_map spelled ((five_devices dead).counts h r.script.steps ++ EndLine clock ∷ [])) middle after → AnswersAs (IsRunBehind dead h (next_bytes kept old)) answer old end before after
+    → Closes status.Ok answer (flat_map spelled ((five_devices dead).counts h r.script.steps ++ EndLine clock ∷ [])) middle after → AnswersAs (IsRunBehind dead h (next_bytes kept old)) answer (io old end before after)
 runs_ended dead h old end left before middle after kept held it new device clock answer r step closes =
     let counts = flat_map spelled ((five_devices dead).counts h r.script.steps ++ EndLine clock ∷ []) in
     closed (IsRunBehind dead h (next_bytes kept old)) status.Ok answer (flat_map spelled r.lines) counts old end before middle after

@@ -2,6 +2,7 @@
 use Rattle.std.proofs.Common.{◌≡◌, ◌∙◌, ℕ, Option, Some, List, [], ◌∷◌, sym, ap, subst}
 use Rattle.ddr_io.specs.declared.status.Status.{Status}
 use Rattle.ddr_io.specs.declared.status.Status.TheVariants as status
+use Rattle.ddr_text.specs.Io.{io}
 use Rattle.ddr_text.specs.Opening.{Opens, Accepts, opening_of}
 use Rattle.ddr_text.specs.Outcome.{AnswersAs, EndsAs, Outcome}
 use Rattle.device_core.specs.Stored.{changes_of}
@@ -22,11 +23,11 @@ all_right dead h [] bytes state a = tt
 all_right dead h (read ∷ reads) bytes state a = (record { bytes = bytes dead (changes_of h read.steps) read.line a.0; state = state dead (changes_of h read.steps) read.line a.0 }, all_right dead h reads bytes state a.1)
 
 -- a script with nothing to refuse and no broken rule is neither refused nor broken
-pub unblamed : (dead : ℕ) (old new before after : Option (List ℕ)) (answer : Status) → ((h : Header) (rest : List ℕ) → JudgesInOrder (five_devices dead) h rest) → AnswersAs (IsSpared dead old) answer old new before after
+pub unblamed : (dead : ℕ) (old new before after : Option (List ℕ)) (answer : Status) → ((h : Header) (rest : List ℕ) → JudgesInOrder (five_devices dead) h rest) → AnswersAs (IsSpared dead old) answer (io old new before after)
     → (bytes rest text : List ℕ) (h : Header) (clock : ℕ) → old ≡ Some bytes → opening_of bytes ≡ Accepts h text rest → IsFlawless (five_devices dead) h rest clock → IsUnblamed answer
 unblamed dead old new before after answer law answers bytes rest text h clock is opens fine = (
-  λ (e : answer ≡ status.Refused). never status.Refused (subst (λ (s : Status). AnswersAs (IsSpared dead old) s old new before after) e answers) (λ f. cc),
-  λ (e : answer ≡ status.Broken). never status.Broken (subst (λ (s : Status). AnswersAs (IsSpared dead old) s old new before after) e answers) (λ f. cc),
+  λ (e : answer ≡ status.Refused). never status.Refused (subst (λ (s : Status). AnswersAs (IsSpared dead old) s (io old new before after)) e answers) (λ f. cc),
+  λ (e : answer ≡ status.Broken). never status.Broken (subst (λ (s : Status). AnswersAs (IsSpared dead old) s (io old new before after)) e answers) (λ f. cc),
 )
   where
     never : (s : Status) → EndsAs (IsSpared dead old) s before after → (s ≡ status.Ok → ⊥) → ⊥

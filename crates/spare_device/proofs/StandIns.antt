@@ -22,7 +22,7 @@ use Rattle.speed_bin.specs.Log.{Log}
 use Rattle.speed_bin.specs.declared.header.Header.{Header}
 use Rattle.spare_device.specs.Spare.{held_by, live, mixed, mixed_four, part_of, read_words, rebuilt, spare_of, spare_reading, stored_word}
 use Rattle.spare_device.specs.StandIn.{place_for, restored, standing_part, stood_changes, stood_in, stood_steps}
-use Rattle.spare_device.proofs.Bytes.{sixteen}
+use Rattle.error_scrub.proofs.LineBytes.{sixteen}
 use Rattle.spare_device.proofs.Mixed.{mixed-assoc, mixed-comm, mixed-length}
 
 -- ---- Four parts

@@ -48,7 +48,7 @@ use std::alloc::Global;
 #[inline(never)]
 pub fn spare<S: Source, K: Sink>(alloc: Global, dead: u8, source: &mut S, sink: &mut K) -> Status
     requires { dead < 5 }
-    ensures answer { AnswersAs (IsSpared dead (S.left source.old)) result (S.left source.old) (S.left source.new) (K.written sink.old) (K.written sink.new) }
+    ensures answer { AnswersAs (IsSpared dead (S.left source.old)) result (record { had = S.left source.old; left = S.left source.new; written_before = K.written sink.old; written_after = K.written sink.new }) }
     ensures usage { result ≢ Status.Usage }
 
     // What comes of the script, whoever made it: its lines are judged in their order by the rules alone, and its reads are those
@@ -74,7 +74,7 @@ pub fn spare<S: Source, K: Sink>(alloc: Global, dead: u8, source: &mut S, sink: 
 // Opens the script, and runs it.
 fn run_script<S: Source, K: Sink>(alloc: Global, dead: u8, source: &mut S, sink: &mut K) -> Status
     requires { dead < 5 }
-    ensures answer { AnswersAs (IsSpared dead (S.left source.old)) result (S.left source.old) (S.left source.new) (K.written sink.old) (K.written sink.new) }
+    ensures answer { AnswersAs (IsSpared dead (S.left source.old)) result (record { had = S.left source.old; left = S.left source.new; written_before = K.written sink.old; written_after = K.written sink.new }) }
     ensures usage { result ≢ Status.Usage }
     ensures read { result ≡ Status.ReadFault → Rose (S.faults source.old) (S.faults source.new) }
     ensures write { result ≡ Status.WriteFault → Rose (K.faults sink.old) (K.faults sink.new) }
@@ -105,7 +105,7 @@ fn run_behind<S: Source, K: Sink>(
     requires inside { dead < 5 }
     requires accepted { IsAccepted header.now }
     requires going_on { reader.last ≡ Line.Text }
-    ensures answer { AnswersAs (IsOpened dead header.now text.now (next_bytes reader.held (S.left source.old))) result (S.left source.old) (S.left source.new) (K.written sink.old) (K.written sink.new) }
+    ensures answer { AnswersAs (IsOpened dead header.now text.now (next_bytes reader.held (S.left source.old))) result (record { had = S.left source.old; left = S.left source.new; written_before = K.written sink.old; written_after = K.written sink.new }) }
     ensures read { result ≡ Status.ReadFault → Rose (S.faults source.old) (S.faults source.new) }
     ensures write { result ≡ Status.WriteFault → Rose (K.faults sink.old) (K.faults sink.new) }
     ensures reads_kept { result ≢ Status.ReadFault → S.faults source.new ≡ S.faults source.old }
@@ -135,7 +135,7 @@ fn run_lines<S: Source, K: Sink>(
     requires accepted { IsAccepted header.now }
     requires going_on { reader.last ≡ Line.Text }
     requires stands { SpareFor dead device.old header.now [] Ready }
-    ensures answer { AnswersAs (IsRunBehind dead header.now (next_bytes reader.held (S.left source.old))) result (S.left source.old) (S.left source.new) (K.written sink.old) (K.written sink.new) }
+    ensures answer { AnswersAs (IsRunBehind dead header.now (next_bytes reader.held (S.left source.old))) result (record { had = S.left source.old; left = S.left source.new; written_before = K.written sink.old; written_after = K.written sink.new }) }
     ensures read { result ≡ Status.ReadFault → Rose (S.faults source.old) (S.faults source.new) }
     ensures write { result ≡ Status.WriteFault → Rose (K.faults sink.old) (K.faults sink.new) }
     ensures reads_kept { result ≢ Status.ReadFault → S.faults source.new ≡ S.faults source.old }
@@ -169,7 +169,7 @@ fn act<K: Sink>(
     requires may { MayAct dead device.old number line.now }
     ensures acts { (h : AnyHeader) (script : Script) → IsAt dead device.old h script number line.now
         → Acts dead result (acted (five_devices dead) h script line.now) h device.new (K.written sink.old) (K.written sink.new) }
-    ensures kept { OnOk result (K.faults sink.new ≡ K.faults sink.old) }
+    ensures faults_kept { OnOk result (K.faults sink.new ≡ K.faults sink.old) }
     ensures cause { IfErr result (WriteCause (K.faults sink.old) (K.faults sink.new)) }
 {
     CheckedDevice::has_shape();
@@ -195,7 +195,7 @@ fn issue<K: Sink>(
     requires ready { IsReady device.old }
     ensures acts { (h : AnyHeader) (script : Script) → SpareFor dead device.old h script.steps Ready → number ≡ script.number
         → Acts dead result (acted (five_devices dead) h script (AnyScriptLine.Issued clock command.now)) h device.new (K.written sink.old) (K.written sink.new) }
-    ensures kept { OnOk result (K.faults sink.new ≡ K.faults sink.old) }
+    ensures faults_kept { OnOk result (K.faults sink.new ≡ K.faults sink.old) }
     ensures cause { IfErr result (WriteCause (K.faults sink.old) (K.faults sink.new)) }
 {
     let checked = device.command(clock, *command);
@@ -214,7 +214,7 @@ fn show_command<K: Sink>(
     requires { dead < 5 }
     ensures acts { (h : AnyHeader) (script : Script) (new : AnyCheckedDevice) → number ≡ script.number → Commands checked.now new h clock command.now (stood_steps dead script.steps) → AreGiven (changes_of h script.steps)
         → Acts dead result (acted (five_devices dead) h script (AnyScriptLine.Issued clock command.now)) h new (K.written sink.old) (K.written sink.new) }
-    ensures kept { OnOk result (K.faults sink.new ≡ K.faults sink.old) }
+    ensures faults_kept { OnOk result (K.faults sink.new ≡ K.faults sink.old) }
     ensures cause { IfErr result (WriteCause (K.faults sink.old) (K.faults sink.new)) }
 {
     match checked {
@@ -277,7 +277,7 @@ fn flip<K: Sink>(
     requires ready { IsReady device.old }
     ensures acts { (h : AnyHeader) (script : Script) → SpareFor dead device.old h script.steps Ready
         → Acts dead result (acted (five_devices dead) h script (AnyScriptLine.Flip line chip bit)) h device.new (K.written sink.old) (K.written sink.new) }
-    ensures kept { OnOk result (K.faults sink.new ≡ K.faults sink.old) }
+    ensures faults_kept { OnOk result (K.faults sink.new ≡ K.faults sink.old) }
     ensures cause { IfErr result (WriteCause (K.faults sink.old) (K.faults sink.new)) }
 {
     let clock = device.last_clock();

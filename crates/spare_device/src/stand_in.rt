@@ -1,10 +1,10 @@
 //! The spare in the place of the dead device.
-ghost use Rattle.std.specs.Prelude.{◌≡◌, ◌<◌, ◌*◌, ◌+◌, ◌++◌, slice_range, if◌then◌else◌};
-ghost use Rattle.spare_device.specs.Spare.{mixed, mixed_four, part_of};
+ghost use Rattle.std.specs.Prelude.{◌≡◌, if◌then◌else◌};
+ghost use Rattle.spare_device.specs.Spare.{mixed, mixed_four};
 ghost use Rattle.spare_device.specs.StandIn.{stood_in};
 ghost use Rattle.spare_device.specs.StandIn.{restored as read_restored};
 
-use error_scrub::LineRead;
+use error_scrub::{LineRead, joined, part};
 
 // The bytes with the exclusive-or of their four parts in the place of the dead device's, if that is below 4. Of the bytes of a
 // line this is what the live devices hold; of what they hold, it is the line.
@@ -58,36 +58,4 @@ fn mixed(one: &[u8; 16], other: &[u8; 16]) -> [u8; 16]
         both[i] ^= other[i];
     }
     both
-}
-
-// The bytes of a device below 4.
-fn part(bytes: &[u8; 64], device: usize) -> [u8; 16]
-    requires { device < 4 }
-    ensures { result ≡ part_of bytes.now device }
-{
-    let mut part = [0; 16];
-    part.copy_from_slice(&bytes[16 * device..16 * device + 16]);
-    part
-}
-
-// The bytes of the four devices, in order.
-fn joined(first: &[u8; 16], second: &[u8; 16], third: &[u8; 16], fourth: &[u8; 16]) -> [u8; 64]
-    ensures { result ≡ first.now ++ second.now ++ third.now ++ fourth.now }
-{
-    let low = half(first, second);
-    let high = half(third, fourth);
-    let mut bytes = [0; 64];
-    bytes[..32].copy_from_slice(&low);
-    bytes[32..].copy_from_slice(&high);
-    bytes
-}
-
-// The bytes of two devices, in order.
-fn half(first: &[u8; 16], second: &[u8; 16]) -> [u8; 32]
-    ensures { result ≡ first.now ++ second.now }
-{
-    let mut bytes = [0; 32];
-    bytes[..16].copy_from_slice(first);
-    bytes[16..].copy_from_slice(second);
-    bytes
 }

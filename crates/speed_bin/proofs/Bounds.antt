@@ -14,7 +14,7 @@ use Rattle.speed_bin.specs.Marks.{opens_one, acts_since_mark, is_mark, is_calm, 
 use Rattle.speed_bin.proofs.Tests.{or_left, or_right, joined, true_or_false, any_below_at, all_below_at, all_below_fails}
 use Rattle.speed_bin.proofs.Effects.{opens_act, rfm_all_manages, act_closes_no_bank, closes_bank, rule_4_opens, rule_5_manages, rule_12_opens, in_range_opens}
 use Rattle.speed_bin.proofs.Rows.{unused_counts, Sound, sound_step, tracked_greatest, tracked_inside, one_if_open}
-use Rattle.speed_bin.proofs.Cycles.{Paced, Follows, paced_at_mark, paced_step, alert_before}
+use Rattle.speed_bin.proofs.Cycles.{SpacedActs, Follows, paced_at_mark, paced_step, alert_before}
 use Rattle.speed_bin.proofs.Weighing.{Sizes, Weighs, calm, one_more, mitigation, more_since, at_mark}
 use Rattle.speed_bin.specs.Weights.{weights_of, steps_of}
 use Rattle.speed_bin.proofs.Heights.{height_greatest}
@@ -89,24 +89,24 @@ follows h b place log ok low keeps k = record {
         let enough : h.settings.ath ≤ cnt h b hot.0 (place ∷ log) = let q = hot.2 in omega arith in
         joined _ _ (closes_bank b p.0 place.command log low e p.1) (hot_from h b hot.0 (place ∷ log) low hot.1 enough)
 
-pub paced_log : (h : Header) (b : ℕ) (log : Log) → BoundChecks h → b < 32 → Keeps h log → Paced h b (spare h) log (acts_since_mark h b log) (open_at b log) (alert h log)
+pub paced_log : (h : Header) (b : ℕ) (log : Log) → BoundChecks h → b < 32 → Keeps h log → SpacedActs h b (spare h) log (acts_since_mark h b log) (open_at b log) (alert h log)
 paced_log h b [] ok low keeps = paced_at_mark h b (spare h) [] None None
 paced_log h b (place ∷ log) ok low keeps = go (true_or_false (is_calm h b (place ∷ log))) (true_or_false (is_rfm_all place.command)) (paced_log h b log ok low keeps.0)
   where
     Goal : ℕ → Option ℕ → Type 0
-    Goal n raised = Paced h b (spare h) (place ∷ log) n (open_at b (place ∷ log)) raised
+    Goal n raised = SpacedActs h b (spare h) (place ∷ log) n (open_at b (place ∷ log)) raised
 
-    marked : is_mark h b (place ∷ log) ≡ true → Paced h b (spare h) (place ∷ log) (acts_since_mark h b (place ∷ log)) (open_at b (place ∷ log)) (alert h (place ∷ log))
-    marked e = subst (λ (n : ℕ). Paced h b (spare h) (place ∷ log) n (open_at b (place ∷ log)) (alert h (place ∷ log))) (sym (since_at_mark h b place log e)) (paced_at_mark h b (spare h) (place ∷ log) _ _)
+    marked : is_mark h b (place ∷ log) ≡ true → SpacedActs h b (spare h) (place ∷ log) (acts_since_mark h b (place ∷ log)) (open_at b (place ∷ log)) (alert h (place ∷ log))
+    marked e = subst (λ (n : ℕ). SpacedActs h b (spare h) (place ∷ log) n (open_at b (place ∷ log)) (alert h (place ∷ log))) (sym (since_at_mark h b place log e)) (paced_at_mark h b (spare h) (place ∷ log) _ _)
 
-    go : (is_calm h b (place ∷ log) ≡ true) ⊎ (is_calm h b (place ∷ log) ≡ false) → (is_rfm_all place.command ≡ true) ⊎ (is_rfm_all place.command ≡ false) → Paced h b (spare h) log (acts_since_mark h b log) (open_at b log) (alert h log) → Paced h b (spare h) (place ∷ log) (acts_since_mark h b (place ∷ log)) (open_at b (place ∷ log)) (alert h (place ∷ log))
+    go : (is_calm h b (place ∷ log) ≡ true) ⊎ (is_calm h b (place ∷ log) ≡ false) → (is_rfm_all place.command ≡ true) ⊎ (is_rfm_all place.command ≡ false) → SpacedActs h b (spare h) log (acts_since_mark h b log) (open_at b log) (alert h log) → SpacedActs h b (spare h) (place ∷ log) (acts_since_mark h b (place ∷ log)) (open_at b (place ∷ log)) (alert h (place ∷ log))
     go (inl calm) all ih = marked (or_right _ _ calm)
     go (inr hot) (inl all) ih = marked (or_left _ _ all)
     go (inr hot) (inr other) ih =
         let f = follows h b place log ok low keeps hot in
         let step = paced_step h b (spare h) place log (effect b place.command) (acts_since_mark h b log) (open_at b log) (alert h log) _ f ih in
-        subst (λ (n : ℕ). Paced h b (spare h) (place ∷ log) n (open_at b (place ∷ log)) (alert h (place ∷ log))) (sym (since_later h b place log other hot))
-        (subst (λ (raised : Option ℕ). Paced h b (spare h) (place ∷ log) (opens_one (effect b place.command) (acts_since_mark h b log)) (open_at b (place ∷ log)) raised) (sym (alert_later h place log other)) step)
+        subst (λ (n : ℕ). SpacedActs h b (spare h) (place ∷ log) n (open_at b (place ∷ log)) (alert h (place ∷ log))) (sym (since_later h b place log other hot))
+        (subst (λ (raised : Option ℕ). SpacedActs h b (spare h) (place ∷ log) (opens_one (effect b place.command) (acts_since_mark h b log)) (open_at b (place ∷ log)) raised) (sym (alert_later h place log other)) step)
 
 pub few_since_mark : (h : Header) (b : ℕ) (log : Log) → BoundChecks h → b < 32 → Keeps h log → acts_since_mark h b log ≤ suc (spare h)
 few_since_mark h b log ok low keeps = (paced_log h b log ok low keeps).few

@@ -50,14 +50,14 @@ after_precharge h b r t c place log low e f k =
 -- ---- The pace of a bank's ACTs since its last mark, n being their number
 
 -- a cycle has suc d activations
-pub record Paced (h : Header) (b d : ℕ) (log : Log) (n : ℕ) (opened raised : Option ℕ) : Type 0 where
+pub record SpacedActs (h : Header) (b d : ℕ) (log : Log) (n : ℕ) (opened raised : Option ℕ) : Type 0 where
   pub few : n ≤ suc d
   -- while no alert is raised there is at most one, and its row is still open
   pub quiet : raised ≡ None → (n ≡ 0) ⊎ ((n ≡ 1) × (opened ≡ None → ⊥))
   -- while it is raised the next one comes no earlier than this
   pub paced : (a m t r : ℕ) (c : Command) → raised ≡ Some a → n ≡ suc m → (1 ≤ m) ⊎ (opened ≡ None) → effect b c ≡ Opens r → rule_2 h.timing t c log ≡ true → a + h.timing.nrp + m * h.timing.nrc ≤ t
 
-pub paced_at_mark : (h : Header) (b d : ℕ) (log : Log) (opened raised : Option ℕ) → Paced h b d log 0 opened raised
+pub paced_at_mark : (h : Header) (b d : ℕ) (log : Log) (opened raised : Option ℕ) → SpacedActs h b d log 0 opened raised
 paced_at_mark h b d log opened raised = record {
   few = omega arith;
   quiet = λ e. inl refl;
@@ -77,7 +77,7 @@ pub record Follows (h : Header) (b d : ℕ) (place : Issued) (log : Log) (e : Ef
   pub act_raises_none : (r : ℕ) → e ≡ Opens r → raises ≡ false
   pub close_raises : e ≡ Closes → (opened ≡ None → ⊥) → raises ≡ true
 
-step_opens : (h : Header) (b d : ℕ) (place : Issued) (log : Log) (r n : ℕ) (opened raised : Option ℕ) (raises : Bool) → Follows h b d place log (Opens r) opened raised raises → Paced h b d log n opened raised → Paced h b d (place ∷ log) (suc n) (Some r) (alert_after false raises place.clock raised)
+step_opens : (h : Header) (b d : ℕ) (place : Issued) (log : Log) (r n : ℕ) (opened raised : Option ℕ) (raises : Bool) → Follows h b d place log (Opens r) opened raised raises → SpacedActs h b d log n opened raised → SpacedActs h b d (place ∷ log) (suc n) (Some r) (alert_after false raises place.clock raised)
 step_opens h b d place log r n opened None raises f p = record {
   few = go (p.quiet refl);
   quiet = λ e. inr (one (p.quiet refl), λ none. cc);
@@ -122,7 +122,7 @@ step_opens h b d place log r n opened (Some raised) raises f p = record {
         let next = after_act h b s r t c place log f.bank f.is own follow in
         omega arith
 
-step_closes : (h : Header) (b d : ℕ) (place : Issued) (log : Log) (n : ℕ) (opened raised : Option ℕ) (raises : Bool) → Follows h b d place log Closes opened raised raises → Paced h b d log n opened raised → Paced h b d (place ∷ log) n None (alert_after false raises place.clock raised)
+step_closes : (h : Header) (b d : ℕ) (place : Issued) (log : Log) (n : ℕ) (opened raised : Option ℕ) (raises : Bool) → Follows h b d place log Closes opened raised raises → SpacedActs h b d log n opened raised → SpacedActs h b d (place ∷ log) n None (alert_after false raises place.clock raised)
 step_closes h b d place log n opened None raises f p = record {
   few = p.few;
   quiet = λ e. inl (go e (p.quiet refl));
@@ -159,7 +159,7 @@ step_closes h b d place log n opened (Some raised) raises f p = record {
         omega arith
 
 -- any other effect leaves the bank's row and the number as they are
-step_others : (h : Header) (b d : ℕ) (place : Issued) (log : Log) (e : Effect) (n : ℕ) (opened raised : Option ℕ) (raises : Bool) → Follows h b d place log e opened raised raises → Paced h b d log n opened raised → Paced h b d (place ∷ log) n opened (alert_after false raises place.clock raised)
+step_others : (h : Header) (b d : ℕ) (place : Issued) (log : Log) (e : Effect) (n : ℕ) (opened raised : Option ℕ) (raises : Bool) → Follows h b d place log e opened raised raises → SpacedActs h b d log n opened raised → SpacedActs h b d (place ∷ log) n opened (alert_after false raises place.clock raised)
 step_others h b d place log e n opened None raises f p = record {
   few = p.few;
   quiet = λ k. p.quiet refl;
@@ -176,7 +176,7 @@ step_others h b d place log e n opened (Some raised) raises f p = record {
   paced = λ a m t s c k size sep own follow. p.paced a m t s c k size sep own (rule_2_tail h t c place log follow);
 }
 
-pub paced_step : (h : Header) (b d : ℕ) (place : Issued) (log : Log) (e : Effect) (n : ℕ) (opened raised : Option ℕ) (raises : Bool) → Follows h b d place log e opened raised raises → Paced h b d log n opened raised → Paced h b d (place ∷ log) (opens_one e n) (open_after e opened) (alert_after false raises place.clock raised)
+pub paced_step : (h : Header) (b d : ℕ) (place : Issued) (log : Log) (e : Effect) (n : ℕ) (opened raised : Option ℕ) (raises : Bool) → Follows h b d place log e opened raised raises → SpacedActs h b d log n opened raised → SpacedActs h b d (place ∷ log) (opens_one e n) (open_after e opened) (alert_after false raises place.clock raised)
 paced_step h b d place log (Opens r) n opened raised raises f p = step_opens h b d place log r n opened raised raises f p
 paced_step h b d place log Closes n opened raised raises f p = step_closes h b d place log n opened raised raises f p
 paced_step h b d place log Manages n opened raised raises f p = step_others h b d place log Manages n opened raised raises f p

@@ -1,5 +1,5 @@
--- The greatest clock of all rows and of the window is the least clock under rules 1 to 3, and lies below a bound.
-use Rattle.std.proofs.Common.{◌≡◌, ◌↔◌, ℕ, ◌+◌, ◌≤◌, ◌<◌, ◌^◌, Bool, true, false, ◌&&◌, nat_le, max, if◌then◌else◌, List, [], ◌∷◌, slice_get, IsTrue, Option, is_some, refl, sym, subst, arith}
+-- The greatest clock of the gaps and of the window is the least clock under rules 1 to 3, and lies below a bound.
+use Rattle.std.proofs.Common.{◌≡◌, ◌↔◌, ℕ, ◌+◌, ◌≤◌, ◌<◌, ◌^◌, Bool, true, false, nat_le, max, if◌then◌else◌, List, [], ◌∷◌, slice_get, IsTrue, Option, is_some, refl, sym, subst, arith}
 use Rattle.std.specs.Option.{IsNone}
 use Rattle.std.specs.List.{list_all}
 use Rattle.std.proofs.lemmas.Bool.{le-leb, leb-true}
@@ -11,9 +11,7 @@ use Rattle.speed_bin.specs.Rules.{MayFollow, rule_1, rule_2, rule_3, first_faili
 use Rattle.speed_bin.specs.Timing.{IsTiming}
 use Rattle.speed_bin.specs.declared.timing.Timing.{Timing}
 use Rattle.speed_bin.proofs.Tests.{joined}
-use Rattle.timing_rules.specs.Rows.{AllClear, RowsClear, bus_rows, act_rows, rd_rows, wr_rows, precharge_rows, busy_rows}
 use Rattle.timing_rules.specs.Spaced.{AllSmall, spacing_rules}
-use Rattle.timing_rules.proofs.Clear.{rule_2_apart, rule_2_together}
 use Rattle.timing_rules.proofs.Spacing.{rises, acts_of, window_allows, window_passes}
 use Rattle.timing_rules.proofs.Window.{small_fourth, late_after}
 
@@ -25,40 +23,6 @@ left m a b clock e h = omega arith
 
 right : (m a b clock : ℕ) → m ≡ max a b → m ≤ clock → b ≤ clock
 right m a b clock e h = omega arith
-
-pub least_gaps : (t : Timing) (command : Command) (log : Log) (clock bus acts reads writes precharges busy a b c d result : ℕ)
-    → (AllClear bus_rows clock log ↔ (bus ≤ clock))
-    → (AllClear (act_rows t command) clock log ↔ (acts ≤ clock))
-    → (AllClear (rd_rows t command) clock log ↔ (reads ≤ clock))
-    → (AllClear (wr_rows t command) clock log ↔ (writes ≤ clock))
-    → (AllClear (precharge_rows t command) clock log ↔ (precharges ≤ clock))
-    → (AllClear (busy_rows t command) clock log ↔ (busy ≤ clock))
-    → a ≡ max bus acts → b ≡ max a reads → c ≡ max b writes → d ≡ max c precharges → result ≡ max d busy
-    → (IsTrue (rule_2 t clock command log) ↔ (result ≤ clock))
-least_gaps t command log clock bus acts reads writes precharges busy a b c d result is_bus is_acts is_reads is_writes is_precharges is_busy ea eb ec ed ee = (
-  λ gaps.
-      let rows : RowsClear t command clock log = rule_2_apart t clock command log gaps in
-      greater result d busy clock ee
-      (greater d c precharges clock ed
-      (greater c b writes clock ec
-      (greater b a reads clock eb (greater a bus acts clock ea (is_bus.0 rows.bus) (is_acts.0 rows.acts)) (is_reads.0 rows.reads))
-      (is_writes.0 rows.writes))
-      (is_precharges.0 rows.precharges))
-      (is_busy.0 rows.busy),
-  λ h.
-      let hd = left result d busy clock ee h in
-      let hc = left d c precharges clock ed hd in
-      let hb = left c b writes clock ec hc in
-      let ha = left b a reads clock eb hb in
-      rule_2_together t clock command log (record {
-        bus = is_bus.1 (left a bus acts clock ea ha);
-        acts = is_acts.1 (right a bus acts clock ea ha);
-        reads = is_reads.1 (right b a reads clock eb hb);
-        writes = is_writes.1 (right c b writes clock ec hc);
-        precharges = is_precharges.1 (right d c precharges clock ed hd);
-        busy = is_busy.1 (right result d busy clock ee h);
-      }),
-)
 
 pub least_clock : (t : Timing) (command : Command) (log : Log) (clock gaps window result : ℕ)
     → (IsTrue (rule_2 t clock command log) ↔ (gaps ≤ clock))

@@ -1,8 +1,11 @@
-pub mod Clear
+pub mod CoveredBlocks
 pub mod Earliest
-pub mod Last
+pub mod GapReaches
 pub mod Meet
-pub mod Noted
+pub mod NamedBlocks
+pub mod NoBlock
+pub mod Raised
+pub mod Reaches
 pub mod Spacing
 pub mod Table
 pub mod Window

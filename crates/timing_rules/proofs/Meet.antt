@@ -1,15 +1,12 @@
 -- Two sets of banks have one in common exactly where the test of each bank finds one.
-use Rattle.std.proofs.Common.{◌≡◌, ◌∙◌, ℕ, zero, suc, ◌<◌, ◌%◌, ◌⊎◌, Bool, true, false, ◌&&◌, ◌||◌, refl, sym, ap, arith, inl, inr, subst}
+use Rattle.std.proofs.Common.{◌≡◌, ◌∙◌, ℕ, ◌<◌, ◌%◌, Bool, true, ◌&&◌, refl, sym, arith, subst}
 use Rattle.std.proofs.lemmas.Bool.{eqb-true, eq-eqb}
 use Rattle.command_words.specs.Command.{is_at, covers}
 use Rattle.command_words.specs.declared.command.Command.{Command}
-use Rattle.command_words.specs.declared.command.Command.TheVariants.{PreAb}
-use Rattle.speed_bin.specs.Below.{any_below}
 use Rattle.speed_bin.specs.Gap.{meet}
-use Rattle.speed_bin.proofs.Tests.{both, joined, same_tests, any_below_at, any_below_none, any_below_same, any_below_some}
+use Rattle.speed_bin.proofs.Tests.{both, joined, same_tests, any_below_at, any_below_some}
 use Rattle.timing_rules.specs.declared.scope.Scope.{Scope}
 use Rattle.timing_rules.specs.declared.scope.Scope.TheVariants.{Bank, Address, All, Nothing}
-use Rattle.timing_rules.specs.Kept.{touches, closes_all}
 use Rattle.timing_rules.specs.Scope.{is_within, overlap_of, IsScope}
 
 within_both : Scope → Scope → ℕ → Bool
@@ -61,33 +58,3 @@ meet_by_scopes first second s r hs hr es er = same_tests (overlap_of s r) (meet 
     (λ e. let w = any_below_some 32 (λ b. covers first b && covers second b) e in
     let p = both (covers first w.0) (covers second w.0) w.2 in
     overlap_from s r w.0 hs hr (es w.0 ∙ p.0) (er w.0 ∙ p.1))
-
--- the same of one command and a scope
-pub touches_by_scope : (command : Command) (own scope : Scope) → IsScope own → IsScope scope → ((b : ℕ) → covers command b ≡ is_within own b) → touches scope command ≡ overlap_of own scope
-touches_by_scope command own scope h k e = same_tests (touches scope command) (overlap_of own scope)
-    (λ t. let w = any_below_some 32 (λ b. covers command b && is_within scope b) t in
-    let p = both (covers command w.0) (is_within scope w.0) w.2 in
-    overlap_from own scope w.0 h k (sym (e w.0) ∙ p.0) p.1)
-    (λ o. let w : Common own scope = overlap_at own scope h k o in
-    any_below_at 32 (λ b. covers command b && is_within scope b) w.0 w.1 (joined (covers command w.0) (is_within scope w.0) (e w.0 ∙ w.2) w.3))
-
--- to meet a command is to touch its scope
-pub meet_touches : (first second : Command) (scope : Scope) → ((b : ℕ) → is_within scope b ≡ covers second b) → meet first second ≡ touches scope first
-meet_touches first second scope e = any_below_same 32 (λ b. covers first b && covers second b) (λ b. covers first b && is_within scope b) (λ b low. ap (λ x. covers first b && x) (sym (e b)))
-
-and_false : (b : Bool) → (b && false) ≡ false
-and_false true = refl
-and_false false = refl
-
--- nothing touches no bank
-pub touches_nothing : (command : Command) → touches Nothing command ≡ false
-touches_nothing command = any_below_none 32 (λ b. covers command b && false) (λ b low. and_false (covers command b))
-
--- what covers every bank touches each scope but the empty one
-pub touches_each : (command : Command) (scope : Scope) → IsScope scope → ((b : ℕ) → covers command b ≡ true) → touches scope command ≡ overlap_of All scope
-touches_each command scope k e = touches_by_scope command All scope tt k e
-
--- PREab covers every bank
-pub all_cover : (command : Command) → closes_all command ≡ true → (b : ℕ) → covers command b ≡ true
-all_cover PreAb h b = refl
-all_cover _ h b = absurd cc

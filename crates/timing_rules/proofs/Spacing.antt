@@ -1,5 +1,5 @@
 -- Rules 1 to 3 over a list: rule 1 follows from rule 2, and rule 3 looks at the fourth ACT, counted from the last one back.
-use Rattle.std.proofs.Common.{◌≡◌, ℕ, ◌+◌, ◌≤◌, Bool, true, false, ◌&&◌, List, [], ◌∷◌, max, if◌then◌else◌, nat_le, nat_lt, suc, Option, Some, None, slice_get, refl, arith, IsTrue}
+use Rattle.std.proofs.Common.{◌≡◌, ℕ, ◌+◌, ◌≤◌, Bool, true, false, List, [], ◌∷◌, max, if◌then◌else◌, nat_le, nat_lt, suc, Option, Some, None, slice_get, refl, arith, IsTrue}
 use Rattle.std.specs.List.{list_all, filter}
 use Rattle.std.proofs.lemmas.Bool.{leb-true, le-leb}
 use Rattle.command_words.specs.declared.command.Command.{Command}

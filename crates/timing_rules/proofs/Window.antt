@@ -10,12 +10,18 @@ use Rattle.speed_bin.specs.declared.timing.Timing.{Timing}
 use Rattle.timing_rules.specs.Gate.{act_clocks}
 use Rattle.timing_rules.specs.Kept.{behind, IsSmall}
 use Rattle.timing_rules.specs.Spaced.{AllSmall}
-use Rattle.timing_rules.proofs.Last.{IsRow}
-use Rattle.timing_rules.proofs.Spacing.{IsAfter, acts_of, window_asks, window_allows, window_passes}
+use Rattle.timing_rules.proofs.Spacing.{IsAfter, acts_of, window_asks, window_allows}
 
 -- one more ACT is kept, and the fifth is dropped
 pub window_pushed : (old : Buffer ℕ) (xs : List ℕ) (clock : ℕ) → old ≡ buffer (take 4 xs) 4 → buffer (take old.capacity (clock ∷ old.items)) old.capacity ≡ buffer (take 4 (clock ∷ xs)) 4
 window_pushed old xs clock e = ap (λ (b : Buffer ℕ). buffer (take b.capacity (clock ∷ b.items)) b.capacity) e ∙ ap (λ ys. buffer (clock ∷ ys) 4) (take-take 3 4 xs (omega arith))
+
+-- an ACT is one more of the ACTs, and another command none
+pub acts_more : (clock : ℕ) (command : Command) (log : Log) → is_act command ≡ true → act_clocks (record { clock = clock; command = command } ∷ log) ≡ clock ∷ act_clocks log
+acts_more clock command log e = ap (λ b. map (λ (place : Issued). place.clock) (if b then record { clock = clock; command = command } ∷ acts_of log else acts_of log)) e
+
+pub acts_same : (clock : ℕ) (command : Command) (log : Log) → is_act command ≡ false → act_clocks (record { clock = clock; command = command } ∷ log) ≡ act_clocks log
+acts_same clock command log e = ap (λ b. map (λ (place : Issued). place.clock) (if b then record { clock = clock; command = command } ∷ acts_of log else acts_of log)) e
 
 pub fourth_kept : (xs : List ℕ) → slice_get (take 4 xs) 3 ≡ slice_get xs 3
 fourth_kept [] = refl
@@ -69,12 +75,8 @@ window_act t log command kept result clock e r act =
       λ h. window_allows t clock command log act (behind_after t.nfaw clock (slice_get (acts_of log) 3) (subst (λ m. m ≤ clock) (sym is) h)),
     )
 
-pub window_row : (t : Timing) (log : Log) (command : Command) (applies : Bool) (kept : Option ℕ) (result : ℕ) → AllSmall log → kept ≡ slice_get (act_clocks log) 3 → IsRow result applies kept t.nfaw → applies ≡ is_act command → (clock : ℕ) → (IsTrue (rule_3 t clock command log) ↔ (result ≤ clock))
-window_row t log command applies kept result small e r is clock = go applies is (r (subst IsSmall (sym same) (small_fourth log small)))
+pub window_row : (t : Timing) (log : Log) (command : Command) (kept : Option ℕ) (result : ℕ) → AllSmall log → kept ≡ slice_get (act_clocks log) 3 → (IsSmall kept → result ≡ behind kept t.nfaw) → is_act command ≡ true → (clock : ℕ) → (IsTrue (rule_3 t clock command log) ↔ (result ≤ clock))
+window_row t log command kept result small e r act clock = window_act t log command kept result clock same (r (subst IsSmall (sym same) (small_fourth log small))) act
   where
     same : kept ≡ clock_of (slice_get (acts_of log) 3)
     same = e ∙ get_clocks (acts_of log) 3
-
-    go : (b : Bool) → b ≡ is_act command → result ≡ (if b then behind kept t.nfaw else 0) → (IsTrue (rule_3 t clock command log) ↔ (result ≤ clock))
-    go true f k = window_act t log command kept result clock same k (sym f)
-    go false f k = (λ h. omega (arith, k), λ h. window_passes t clock command log (sym f))

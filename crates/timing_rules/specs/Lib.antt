@@ -1,5 +1,6 @@
+pub mod Blocks
 pub mod Gate
 pub mod Kept
-pub mod Rows
+pub mod Reach
 pub mod Scope
 pub mod Spaced

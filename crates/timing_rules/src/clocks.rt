@@ -1,46 +1,50 @@
-//! The clocks of the commands issued so far that the rules of spacing ask for.
-ghost use Rattle.std.specs.Prelude.{ℕ, ◌≡◌, ◌+◌, ◌<◌, ◌≤◌, ◌↔◌, ◌^◌, ◌&&◌, [], ◌∷◌, IsTrue, IsNone};
+//! Until when the commands issued so far block others, which is what the rules of spacing ask for.
+ghost use Rattle.std.specs.Prelude.{ℕ, ◌≡◌, ◌<◌, ◌≤◌, ◌↔◌, ◌^◌, [], ◌∷◌, true, take, IsTrue, IsNone};
 ghost use Rattle.circular_buffer.specs.Buffer.{buffer};
 ghost use Rattle.command_words.specs.Command.{covers};
-ghost use Rattle.command_words.specs.Kinds.{group_of};
+ghost use Rattle.command_words.specs.Kinds.{is_act, is_precharge, needs_closed};
+ghost use Rattle.command_words.specs.declared.command.Command.{Command as CommandValue};
+ghost use Rattle.speed_bin.specs.Gap.{gap};
 ghost use Rattle.speed_bin.specs.Log.{Log};
 ghost use Rattle.speed_bin.specs.Rules.{MayFollow, rule_1, rule_2, rule_3, first_failing};
 ghost use Rattle.speed_bin.specs.Timing.{IsTiming};
 ghost use Rattle.speed_bin.specs.declared.timing.Timing.{Timing};
-ghost use Rattle.timing_rules.specs.Rows.{AllClear, act_rows, bus_rows, busy_rows, precharge_rows, rd_rows, wr_rows};
-ghost use Rattle.timing_rules.specs.Scope.{IsScope, is_within};
+ghost use Rattle.timing_rules.specs.Gate.{act_clocks};
+ghost use Rattle.timing_rules.specs.Kept.{IsSmall, behind};
+ghost use Rattle.timing_rules.specs.Reach.{reach};
+ghost use Rattle.timing_rules.specs.Scope.{is_within};
 ghost use Rattle.timing_rules.specs.Spaced.{spacing_rules};
 
 use crate::Clock;
-use crate::gaps::follows_precharge;
-use crate::kept::{Addressed, Banked, within_all};
-use crate::rows::row;
 use crate::scope::{Scope, scope_of};
+use crate::spans::spans_of;
+use crate::tables::{in_bank, in_group, latest, raise_banks, raise_group, raised};
 use circular_buffer::HeapCircularBuffer;
-use command_words::Command;
+use command_words::{Bank, Command};
 use speed_bin::Timing;
 
-/// The clocks at which the last command of each kind stood in each place that the gap table asks for, and those of the
-/// last four ACTs.
+/// The clock of the last command, until when the commands block others, and the clocks of the last four ACTs.
 #[derive(Drop)]
 pub(crate) struct Clocks {
     timing: Timing,
-    // The last command, and the last of two clocks: ACT, RD, WR or MRW.
     any: Option<Clock>,
-    wide: Option<Clock>,
-    acts: Banked,
-    reads: Banked,
-    writes: Banked,
-    bank_precharges: Banked,
-    address_precharges: Addressed,
-    all_precharges: Option<Clock>,
-    all_refreshes: Option<Clock>,
-    address_refreshes: Addressed,
-    all_managements: Option<Clock>,
-    address_managements: Addressed,
-    scrubs: Option<Clock>,
-    register_writes: Option<Clock>,
-    // The clocks of the last four ACTs, the newest first.
+    // every command, and every one but NOP
+    bus: Clock,
+    floor: Clock,
+    // in any bank
+    act: Clock,
+    rd: Clock,
+    wr: Clock,
+    // in each group
+    act_groups: [Clock; 8],
+    rd_groups: [Clock; 8],
+    wr_groups: [Clock; 8],
+    // in each bank: ACT, RD and WR, precharges, and what needs it closed
+    act_banks: [Clock; 32],
+    columns: [Clock; 32],
+    precharges: [Clock; 32],
+    closed: [Clock; 32],
+    // the newest first
     window: HeapCircularBuffer<Clock>,
 }
 
@@ -57,19 +61,18 @@ impl Clocks {
         Clocks {
             timing: *timing,
             any: None,
-            wide: None,
-            acts: Banked::new(),
-            reads: Banked::new(),
-            writes: Banked::new(),
-            bank_precharges: Banked::new(),
-            address_precharges: Addressed::new(),
-            all_precharges: None,
-            all_refreshes: None,
-            address_refreshes: Addressed::new(),
-            all_managements: None,
-            address_managements: Addressed::new(),
-            scrubs: None,
-            register_writes: None,
+            bus: 0,
+            floor: 0,
+            act: 0,
+            rd: 0,
+            wr: 0,
+            act_groups: [0; 8],
+            rd_groups: [0; 8],
+            wr_groups: [0; 8],
+            act_banks: [0; 32],
+            columns: [0; 32],
+            precharges: [0; 32],
+            closed: [0; 32],
             window,
         }
     }
@@ -99,40 +102,34 @@ impl Clocks {
 
     // Notes the command, issued at this clock.
     pub(crate) fn issue(&mut self, clock: Clock, command: &Command)
-        requires { clock < 2 ^ 48 }
+        requires timing { IsTiming self.old.timing }
+        requires clock { clock < 2 ^ 48 }
         ensures timing { self.new.timing ≡ self.old.timing }
         ensures stands { (t : Timing) (log : Log) → StandsFor self.old t log → MayFollow t clock command.now log
             → StandsFor self.new t (record { clock = clock; command = command.now } ∷ log) }
     {
+        let spans = spans_of(&self.timing, command);
+        let scope = scope_of(command);
+        let group = command.group();
         self.any = Some(clock);
-        match *command {
-            Command::Act(bank, _) => {
-                self.wide = Some(clock);
-                self.acts.note(clock, bank);
-                self.window.push_front(clock);
-            }
-            Command::Rd(bank, _) => {
-                self.wide = Some(clock);
-                self.reads.note(clock, bank);
-            }
-            Command::Wr(bank, _) => {
-                self.wide = Some(clock);
-                self.writes.note(clock, bank);
-            }
-            Command::PrePb(bank) => self.bank_precharges.note(clock, bank),
-            Command::PreSb(address) => self.address_precharges.note(clock, address),
-            Command::PreAb => self.all_precharges = Some(clock),
-            Command::RefAb => self.all_refreshes = Some(clock),
-            Command::RefSb(address) => self.address_refreshes.note(clock, address),
-            Command::RfmAb => self.all_managements = Some(clock),
-            Command::RfmSb(address) => self.address_managements.note(clock, address),
-            Command::Mrw(_) => {
-                self.wide = Some(clock);
-                self.register_writes = Some(clock);
-            }
-            Command::Ecs => self.scrubs = Some(clock),
-            Command::Nop => {}
-        }
+        let bus = raised(self.bus, clock, spans.bus);
+        let floor = raised(self.floor, clock, spans.floor);
+        let act = raised(self.act, clock, spans.act);
+        let rd = raised(self.rd, clock, spans.rd);
+        let wr = raised(self.wr, clock, spans.wr);
+        self.bus = bus;
+        self.floor = floor;
+        self.act = act;
+        self.rd = rd;
+        self.wr = wr;
+        raise_group(&mut self.act_groups, group, clock, spans.act_group);
+        raise_group(&mut self.rd_groups, group, clock, spans.rd_group);
+        raise_group(&mut self.wr_groups, group, clock, spans.wr_group);
+        raise_banks(&mut self.act_banks, scope, clock, spans.act_bank);
+        raise_banks(&mut self.columns, scope, clock, spans.column);
+        raise_banks(&mut self.precharges, scope, clock, spans.pre);
+        raise_banks(&mut self.closed, scope, clock, spans.closed);
+        note_act(&mut self.window, clock, command);
     }
 
     // Whether the clock is above the last one.
@@ -150,119 +147,106 @@ impl Clocks {
         requires { IsTiming self.now.timing }
         ensures { (t : Timing) (log : Log) → Keeps self.now t log → (clock : ℕ) → (IsTrue (rule_2 self.now.timing clock command.now log) ↔ (result ≤ clock)) }
     {
+        self.reach_of(command)
+    }
+
+    // How far the commands reach with their gaps to this one.
+    fn reach_of(&self, command: &Command) -> Clock
+        ensures { (t : Timing) (log : Log) → Keeps self.now t log → result ≡ reach (λ first. gap self.now.timing first command.now) log }
+    {
         let scope = scope_of(command);
-        self.behind_bus()
-            .max(self.behind_acts(command, scope))
-            .max(self.behind_reads(command, scope))
-            .max(self.behind_writes(command, scope))
-            .max(self.behind_precharges(command, scope))
-            .max(self.behind_busy(command, scope))
+        match *command {
+            Command::Act(bank, _) => self.to_act(bank),
+            Command::Rd(bank, _) => self.to_rd(bank),
+            Command::Wr(bank, _) => self.to_wr(bank),
+            Command::PrePb(bank) => self.to_precharge(bank),
+            Command::PreSb(_) => self.to_precharges(scope),
+            Command::PreAb => self.to_precharges(scope),
+            Command::RefAb => self.to_closed(scope),
+            Command::RefSb(_) => self.to_closed(scope),
+            Command::RfmAb => self.to_closed(scope),
+            Command::RfmSb(_) => self.to_closed(scope),
+            Command::Mrw(_) => self.to_closed(scope),
+            Command::Ecs => self.to_closed(scope),
+            Command::Nop => self.bus,
+        }
     }
 
-    // ---- The rows of the gap table, by the kind of the first command, in the order of the table.
+    // ---- The same of each kind of command
 
-    fn behind_bus(&self) -> Clock
-        ensures { (t : Timing) (log : Log) → Keeps self.now t log → (clock : ℕ) → (AllClear bus_rows clock log ↔ (result ≤ clock)) }
+    #[inline(always)]
+    fn to_act(&self, bank: Bank) -> Clock
+        ensures { (t : Timing) (log : Log) → Keeps self.now t log → (row : ℕ) → result ≡ reach (λ first. gap self.now.timing first (Command.Act bank row)) log }
     {
-        row(true, self.wide, 2).max(row(true, self.any, 1))
+        let there = in_group(&self.act_groups, &bank).max(in_bank(&self.act_banks, &bank));
+        self.floor.max(self.act.max(there))
     }
 
-    fn behind_acts(&self, command: &Command, scope: Scope) -> Clock
-        requires scope { IsScope scope }
-        requires covers { (b : ℕ) → is_within scope b ≡ covers command.now b }
-        ensures { (t : Timing) (log : Log) → Keeps self.now t log → (clock : ℕ) → (AllClear (act_rows self.now.timing command.now) clock log ↔ (result ≤ clock)) }
+    #[inline(always)]
+    fn to_rd(&self, bank: Bank) -> Clock
+        ensures { (t : Timing) (log : Log) → Keeps self.now t log → (column : ℕ) → result ≡ reach (λ first. gap self.now.timing first (Command.Rd bank column)) log }
     {
-        let acts = &self.acts;
-        let in_group = acts.in_group(command.group());
-        let met = acts.within(scope);
-        row(command.is_act(), acts.any, self.timing.nrrd_s)
-            .max(row(command.is_act(), in_group, self.timing.nrrd_l))
-            .max(row(command.is_act(), met, self.timing.nrc))
-            .max(row(command.is_column(), met, self.timing.nrcd))
-            .max(row(command.is_precharge(), met, self.timing.nras))
+        let there = in_group(&self.rd_groups, &bank).max(in_bank(&self.columns, &bank));
+        self.floor.max(self.rd.max(there))
     }
 
-    fn behind_reads(&self, command: &Command, scope: Scope) -> Clock
-        requires timing { IsTiming self.now.timing }
-        requires scope { IsScope scope }
-        requires covers { (b : ℕ) → is_within scope b ≡ covers command.now b }
-        ensures { (t : Timing) (log : Log) → Keeps self.now t log → (clock : ℕ) → (AllClear (rd_rows self.now.timing command.now) clock log ↔ (result ≤ clock)) }
+    #[inline(always)]
+    fn to_wr(&self, bank: Bank) -> Clock
+        ensures { (t : Timing) (log : Log) → Keeps self.now t log → (column : ℕ) → result ≡ reach (λ first. gap self.now.timing first (Command.Wr bank column)) log }
     {
-        let reads = &self.reads;
-        let in_group = reads.in_group(command.group());
-        let turn = (self.timing.ncl + 10).saturating_sub(self.timing.ncwl);
-        row(command.is_rd(), reads.any, self.timing.nccd_s)
-            .max(row(command.is_rd(), in_group, self.timing.nccd_l))
-            .max(row(command.is_wr(), reads.any, turn))
-            .max(row(
-                command.is_precharge(),
-                reads.within(scope),
-                self.timing.nrtp,
-            ))
+        let there = in_group(&self.wr_groups, &bank).max(in_bank(&self.columns, &bank));
+        self.floor.max(self.wr.max(there))
     }
 
-    fn behind_writes(&self, command: &Command, scope: Scope) -> Clock
-        requires timing { IsTiming self.now.timing }
-        requires scope { IsScope scope }
-        requires covers { (b : ℕ) → is_within scope b ≡ covers command.now b }
-        ensures { (t : Timing) (log : Log) → Keeps self.now t log → (clock : ℕ) → (AllClear (wr_rows self.now.timing command.now) clock log ↔ (result ≤ clock)) }
+    // PREpb.
+    #[inline(always)]
+    fn to_precharge(&self, bank: Bank) -> Clock
+        ensures { (t : Timing) (log : Log) → Keeps self.now t log → result ≡ reach (λ first. gap self.now.timing first (Command.PrePb bank)) log }
     {
-        let writes = &self.writes;
-        let in_group = writes.in_group(command.group());
-        let burst = self.timing.ncwl + 8;
-        row(command.is_wr(), writes.any, self.timing.nccd_s)
-            .max(row(command.is_wr(), in_group, self.timing.nccd_l_wr))
-            .max(row(command.is_rd(), writes.any, burst + self.timing.nwtr_s))
-            .max(row(command.is_rd(), in_group, burst + self.timing.nwtr_l))
-            .max(row(
-                command.is_precharge(),
-                writes.within(scope),
-                burst + self.timing.nwr,
-            ))
+        self.floor.max(in_bank(&self.precharges, &bank))
     }
 
-    // Of PREpb, PREsb and PREab.
-    fn behind_precharges(&self, command: &Command, scope: Scope) -> Clock
-        requires scope { IsScope scope }
-        requires covers { (b : ℕ) → is_within scope b ≡ covers command.now b }
-        ensures { (t : Timing) (log : Log) → Keeps self.now t log → (clock : ℕ) → (AllClear (precharge_rows self.now.timing command.now) clock log ↔ (result ≤ clock)) }
+    // PREsb and PREab.
+    fn to_precharges(&self, scope: Scope) -> Clock
+        ensures { (t : Timing) (log : Log) → Keeps self.now t log → (second : CommandValue) → is_precharge second ≡ true → ((b : ℕ) → is_within scope b ≡ covers second b) → result ≡ reach (λ first. gap self.now.timing first second) log }
     {
-        let follows = follows_precharge(command);
-        let nrp = self.timing.nrp;
-        row(follows, self.bank_precharges.within(scope), nrp)
-            .max(row(follows, self.address_precharges.within(scope), nrp))
-            .max(row(follows, within_all(self.all_precharges, scope), nrp))
+        self.floor.max(latest(&self.precharges, scope))
     }
 
-    // Of REF, RFM, ECS and MRW.
-    fn behind_busy(&self, command: &Command, scope: Scope) -> Clock
-        requires scope { IsScope scope }
-        requires covers { (b : ℕ) → is_within scope b ≡ covers command.now b }
-        ensures { (t : Timing) (log : Log) → Keeps self.now t log → (clock : ℕ) → (AllClear (busy_rows self.now.timing command.now) clock log ↔ (result ≤ clock)) }
+    // REF, RFM, ECS and MRW.
+    fn to_closed(&self, scope: Scope) -> Clock
+        ensures { (t : Timing) (log : Log) → Keeps self.now t log → (second : CommandValue) → needs_closed second ≡ true → ((b : ℕ) → is_within scope b ≡ covers second b) → result ≡ reach (λ first. gap self.now.timing first second) log }
     {
-        let waits = !command.is_nop();
-        row(waits, self.all_refreshes, self.timing.nrfc)
-            .max(row(
-                waits,
-                self.address_refreshes.within(scope),
-                self.timing.nrfcsb,
-            ))
-            .max(row(waits, self.all_managements, self.timing.nrfm))
-            .max(row(
-                waits,
-                self.address_managements.within(scope),
-                self.timing.nrfmsb,
-            ))
-            .max(row(waits, self.scrubs, self.timing.necs))
-            .max(row(waits, self.register_writes, self.timing.nmrd))
+        self.floor.max(latest(&self.closed, scope))
     }
 
-    // The window of five ACTs.
+    // The window of five ACTs, for which no other command waits.
     fn behind_window(&self, command: &Command) -> Clock
         ensures { (t : Timing) (log : Log) → Keeps self.now t log → (clock : ℕ) → (IsTrue (rule_3 self.now.timing clock command.now log) ↔ (result ≤ clock)) }
     {
+        if command.is_act() {
+            self.behind_fourth()
+        } else {
+            0
+        }
+    }
+
+    // Behind the fourth ACT, counted from the last one back.
+    fn behind_fourth(&self) -> Clock
+        ensures { (t : Timing) (log : Log) → Keeps self.now t log → (command : CommandValue) → is_act command ≡ true → (clock : ℕ) → (IsTrue (rule_3 self.now.timing clock command log) ↔ (result ≤ clock)) }
+    {
         let first = self.window.get(3).copied();
-        row(command.is_act(), first, self.timing.nfaw)
+        behind(first, self.timing.nfaw)
+    }
+}
+
+// So many clocks behind a kept one, 0 where there is none. Clocks of a log are below 2^48, so that the sum never saturates.
+fn behind(kept: Option<Clock>, clocks: u32) -> Clock
+    ensures { IsSmall kept → result ≡ behind kept clocks }
+{
+    match kept {
+        Some(clock) => clock.saturating_add(u64::from(clocks)),
+        None => 0,
     }
 }
 
@@ -275,5 +259,15 @@ fn least_broken(rises: bool, gaps: bool, window: bool) -> Option<u8>
         (true, false, _) => Some(2),
         (true, true, false) => Some(3),
         (true, true, true) => None,
+    }
+}
+
+// An ACT, issued at this clock, is the newest of the window.
+fn note_act(window: &mut HeapCircularBuffer<Clock>, clock: Clock, command: &Command)
+    ensures { (log : Log) → window.old ≡ buffer (take 4 (act_clocks log)) 4
+        → window.new ≡ buffer (take 4 (act_clocks (record { clock = clock; command = command.now } ∷ log))) 4 }
+{
+    if command.is_act() {
+        window.push_front(clock);
     }
 }

@@ -4,9 +4,9 @@
 mod clocks;
 mod gaps;
 mod gate;
-mod kept;
-mod rows;
 mod scope;
+mod spans;
+mod tables;
 
 pub use gaps::gap;
 pub use gate::Gate;

@@ -40,6 +40,19 @@ pub(crate) fn scope_of(command: &Command) -> Scope
     }
 }
 
+/// The bank with this number is one of the scope.
+#[inline(always)]
+pub(crate) fn is_within(scope: Scope, bank: u8) -> bool
+    ensures { result ≡ is_within scope bank }
+{
+    match scope {
+        Scope::Bank(own) => own == bank,
+        Scope::Address(own) => bank % 4 == own,
+        Scope::All => true,
+        Scope::Nothing => false,
+    }
+}
+
 // Some bank is covered by both.
 pub(crate) fn meet(first: &Command, second: &Command) -> bool
     ensures { result ≡ meet first.now second.now }

@@ -8,6 +8,7 @@ use Rattle.ddr_io.specs.Sink.{AppendsPrefix}
 use Rattle.ddr_io.specs.declared.status.Status.{Status}
 use Rattle.ddr_io.specs.declared.status.Status.TheVariants as status
 use Rattle.speed_bin.specs.declared.header.Header.{Header}
+use Rattle.ddr_text.specs.Io.{io}
 use Rattle.ddr_text.specs.Spelling.{spelled}
 use Rattle.ddr_text.specs.declared.lines.TraceLine.{TraceLine}
 use Rattle.reports.specs.Report.{report}
@@ -53,7 +54,7 @@ some-of : (refused : Option ℕ) → is_some refused ≡ true → IsSome refused
 some-of None e = cc
 some-of (Some reason) e = refl
 
-pub finished : (answer : Status) (ending : Ending) (left left_after before now after : Option (List ℕ)) → RunAnswers (Finished ending) left left_after before now → EndAnswers answer ending now after → Answers answer left left_after before after
+pub finished : (answer : Status) (ending : Ending) (left left_after before now after : Option (List ℕ)) → RunAnswers (Finished ending) (io left left_after before now) → EndAnswers answer ending now after → Answers answer (io left left_after before after)
 finished status.Ok ending left left_after before now after (h, text, trace, refused, job, within, s) e =
     let none = none-of refused (sym s.shown ∙ e.0) in
     inl (h, text, trace, refused, job, within, (none, s.used_up none, reports h text trace refused left left_after before now after ending s e.1))

@@ -5,6 +5,7 @@ use Rattle.ddr_io.specs.declared.status.Status.{Status}
 use Rattle.ddr_io.specs.declared.status.Status.TheVariants as status
 use Rattle.speed_bin.specs.declared.header.Header.{Header}
 use Rattle.std.specs.Io.KnownBytes.{Keeps}
+use Rattle.ddr_text.specs.Io.{io}
 use Rattle.ddr_text.specs.Opening.{Accepts, Refuses, opening_of, IsOpening, IsAnswer, IsUnopened}
 use Rattle.ddr_text.specs.declared.opening.Opening.{Opening}
 use Rattle.ddr_text.specs.declared.opening.Opening.TheVariants as opens
@@ -31,11 +32,11 @@ behind-opening status.ReadFault h text trace refused bytes rest left before afte
 behind-opening status.Usage h text trace refused bytes rest left before after a = a
 behind-opening status.Broken h text trace refused bytes rest left before after a = a
 
-of-unknown : (answer : Status) (h : Header) (text : List ℕ) (left before after : Option (List ℕ)) → IsAnswer (opens.Accepted h text) → TraceAnswers answer h text None left before after → Answers answer None left before after
+of-unknown : (answer : Status) (h : Header) (text : List ℕ) (left before after : Option (List ℕ)) → IsAnswer (opens.Accepted h text) → TraceAnswers answer h text None left before after → Answers answer (io None left before after)
 of-unknown answer h text left before after known (inl (trace, refused, traced, within, a)) = inl (h, text, trace, refused, known, within, a)
 of-unknown answer h text left before after known (inr (trace, read, within, a)) = inr (inl (h, text, trace, known, within, a))
 
-of-known : (answer : Status) (h : Header) (text bytes rest : List ℕ) (left before after : Option (List ℕ)) → opening_of bytes ≡ Accepts h text rest → TraceAnswers answer h text (Some rest) left before after → Answers answer (Some bytes) left before after
+of-known : (answer : Status) (h : Header) (text bytes rest : List ℕ) (left before after : Option (List ℕ)) → opening_of bytes ≡ Accepts h text rest → TraceAnswers answer h text (Some rest) left before after → Answers answer (io (Some bytes) left before after)
 of-known answer h text bytes rest left before after is (inl (trace, refused, traced, within, a)) =
     inl (h, text, trace, refused, (rest, is, traced), within, behind-opening answer h text trace refused bytes rest left before after a)
 of-known answer h text bytes rest None before after is (inr (trace, read, within, a)) = absurd read
@@ -58,26 +59,26 @@ served-behind h text trace refused bytes rest left before now ending s = record 
   shown = s.shown;
 }
 
-ends-unknown : (ended : Ended) (h : Header) (text : List ℕ) (left before after : Option (List ℕ)) → IsAnswer (opens.Accepted h text) → TraceEnds ended h text None left before after → RunAnswers ended None left before after
+ends-unknown : (ended : Ended) (h : Header) (text : List ℕ) (left before after : Option (List ℕ)) → IsAnswer (opens.Accepted h text) → TraceEnds ended h text None left before after → RunAnswers ended (io None left before after)
 ends-unknown (Finished ending) h text left before after known (trace, refused, traced, within, s) = (h, text, trace, refused, known, within, s)
 ends-unknown (Stopped stop) h text left before after known e = of-unknown (status_of stop) h text left before after known e
 ends-unknown RefusedOpening h text left before after known e = absurd e
 
-ends-known : (ended : Ended) (h : Header) (text bytes rest : List ℕ) (left before after : Option (List ℕ)) → opening_of bytes ≡ Accepts h text rest → TraceEnds ended h text (Some rest) left before after → RunAnswers ended (Some bytes) left before after
+ends-known : (ended : Ended) (h : Header) (text bytes rest : List ℕ) (left before after : Option (List ℕ)) → opening_of bytes ≡ Accepts h text rest → TraceEnds ended h text (Some rest) left before after → RunAnswers ended (io (Some bytes) left before after)
 ends-known (Finished ending) h text bytes rest left before after is (trace, refused, traced, within, s) =
     (h, text, trace, refused, (rest, is, traced), within, served-behind h text trace refused bytes rest left before after ending s)
 ends-known (Stopped stop) h text bytes rest left before after is e = of-known (status_of stop) h text bytes rest left before after is e
 ends-known RefusedOpening h text bytes rest left before after is e = absurd e
 
 accepted : (ended : Ended) (h : Header) (text : List ℕ) (held : List ℕ) (known next left before after : Option (List ℕ)) → held ≡ [] → IsOpening (next_bytes held known) next (opens.Accepted h text) → IsAnswer (opens.Accepted h text)
-    → ((start : Option (List ℕ)) → Continues (shape_of h) [] start [] next → TraceEnds ended h text start left before after) → RunAnswers ended known left before after
+    → ((start : Option (List ℕ)) → Continues (shape_of h) [] start [] next → TraceEnds ended h text start left before after) → RunAnswers ended (io known left before after)
 accepted ended h text held None next left before after none o fits e = ends-unknown ended h text left before after fits (e None tt)
 accepted ended h text held (Some bytes) next left before after none o fits e =
     let is : opening_of bytes ≡ Accepts h text o.0 = subst (λ l. opening_of (l ++ bytes) ≡ Accepts h text o.0) none o.1 in
     ends-known ended h text bytes o.0 left before after is (e (Some o.0) (subst (λ n. Continues (shape_of h) [] (Some o.0) [] n) (sym o.2) (from-here h o.0)))
 
 pub opened : (opening : Opening) (ended : Ended) (h : Header) (text : List ℕ) (held : List ℕ) (known next left before after : Option (List ℕ)) → opening ≡ opens.Accepted h text → held ≡ [] → IsOpening (next_bytes held known) next opening → IsAnswer opening
-    → ((start : Option (List ℕ)) → Continues (shape_of h) [] start [] next → TraceEnds ended h text start left before after) → RunAnswers ended known left before after
+    → ((start : Option (List ℕ)) → Continues (shape_of h) [] start [] next → TraceEnds ended h text start left before after) → RunAnswers ended (io known left before after)
 opened opening ended h text held known next left before after is none o fits e =
     accepted ended h text held known next left before after none (subst (λ (p : Opening). IsOpening (next_bytes held known) next p) is o) (subst (λ (p : Opening). IsAnswer p) is fits) e
 
@@ -91,7 +92,7 @@ held-none : (held : List ℕ) (known left : Option (List ℕ)) → held ≡ [] �
 held-none held None left none u = tt
 held-none held (Some bytes) left none u = subst (λ l. IsUnopened (Some (l ++ bytes)) left) none u
 
-pub failed : (held : List ℕ) (known left written : Option (List ℕ)) → held ≡ [] → IsUnopened (next_bytes held known) left → Answers status.ReadFault known left written written
+pub failed : (held : List ℕ) (known left written : Option (List ℕ)) → held ≡ [] → IsUnopened (next_bytes held known) left → Answers status.ReadFault (io known left written written)
 failed held known left written none u = inr (inr (inr (held-none held known left none u, keeps-same written)))
 
 -- ---- No fault was counted
@@ -134,10 +135,10 @@ unrefused : (refusal : Option (ℕ × ℕ)) (refused : Option ℕ) → refused �
 unrefused None refused none e = refl
 unrefused (Some it) refused none e = let no : true ≡ false = e ∙ ap (λ (o : Option ℕ). is_some o) none in cc
 
-ends-unrefused : (ended : Ended) (bytes : List ℕ) (left before after : Option (List ℕ)) (h : Header) (text : List ℕ) (trace : List TraceLine) → RunAnswers ended (Some bytes) left before after → IsJobOf (Some bytes) h text trace None → IsUnrefused ended
+ends-unrefused : (ended : Ended) (bytes : List ℕ) (left before after : Option (List ℕ)) (h : Header) (text : List ℕ) (trace : List TraceLine) → RunAnswers ended (io (Some bytes) left before after) → IsJobOf (Some bytes) h text trace None → IsUnrefused ended
 ends-unrefused (Finished ending) bytes left before after h text trace (other, other_text, shown, refused, is, within, s) job = unrefused ending.refusal refused (none-refused bytes h other text other_text trace shown refused is job) s.shown
 ends-unrefused (Stopped stop) bytes left before after h text trace r job = tt
 ends-unrefused RefusedOpening bytes left before after h text trace (reason, refuses, wrote) job = no-opening bytes reason h text trace refuses job
 
-pub run-complete : (ended : Ended) (known left before after : Option (List ℕ)) (bytes : List ℕ) (h : Header) (text : List ℕ) (trace : List TraceLine) → RunAnswers ended known left before after → known ≡ Some bytes → IsJobOf (Some bytes) h text trace None → IsUnrefused ended
-run-complete ended known left before after bytes h text trace answers is job = ends-unrefused ended bytes left before after h text trace (subst (λ l. RunAnswers ended l left before after) is answers) job
+pub run-complete : (ended : Ended) (known left before after : Option (List ℕ)) (bytes : List ℕ) (h : Header) (text : List ℕ) (trace : List TraceLine) → RunAnswers ended (io known left before after) → known ≡ Some bytes → IsJobOf (Some bytes) h text trace None → IsUnrefused ended
+run-complete ended known left before after bytes h text trace answers is job = ends-unrefused ended bytes left before after h text trace (subst (λ l. RunAnswers ended (io l left before after)) is answers) job

@@ -9,6 +9,7 @@ use Rattle.ddr_io.specs.Sink.{AppendsPrefix}
 use Rattle.ddr_io.specs.declared.status.Status.{Status}
 use Rattle.ddr_io.specs.declared.status.Status.TheVariants as status
 use Rattle.speed_bin.specs.Header.{shape_of}
+use Rattle.ddr_text.specs.Io.{Io}
 use Rattle.ddr_text.specs.Opening.{IsUnopened}
 use Rattle.ddr_text.specs.Outcome.{RefusesLine}
 use Rattle.ddr_text.specs.Spelling.{spelled}
@@ -178,22 +179,22 @@ EndAnswers status.Broken ending before after = ⊥
 -- The bytes that the source had are a job, which was answered so; or a read fault came in its trace; or its opening is
 -- refused; or reading stopped before the trace, and nothing was written: by a fault only where the bytes that were taken
 -- open no job.
-abbrev pub Answers : Status → Option (List ℕ) → Option (List ℕ) → Option (List ℕ) → Option (List ℕ) → Type 0
-Answers answer left left_after before after =
+abbrev pub Answers : Status → Io → Type 0
+Answers answer io =
     ((h : Header) × (text : List ℕ) × (trace : List TraceLine) × (refused : Option ℕ)
-    × IsJobOf left h text trace refused × IsTrace (shape_of h) trace × JobAnswers answer h text trace refused left left_after before after)
+    × IsJobOf io.had h text trace refused × IsTrace (shape_of h) trace × JobAnswers answer h text trace refused io.had io.left io.written_before io.written_after)
     ⊎ (((h : Header) × (text : List ℕ) × (trace : List TraceLine)
-    × IsPartOf left left_after h text trace × IsTrace (shape_of h) trace × PartAnswers answer h text trace before after)
-    ⊎ (((reason : ℕ) × IsNoJob left reason × RefusesLine answer 0 reason before after)
-    ⊎ StopAnswers answer left left_after before after))
+    × IsPartOf io.had io.left h text trace × IsTrace (shape_of h) trace × PartAnswers answer h text trace io.written_before io.written_after)
+    ⊎ (((reason : ℕ) × IsNoJob io.had reason × RefusesLine answer 0 reason io.written_before io.written_after)
+    ⊎ StopAnswers answer io.had io.left io.written_before io.written_after))
 
 -- ---- How a replay ended
 
 -- The bytes that the source had are a job, whose run is finished, and whose report was written but for the lines that end it;
 -- or its opening is refused, and the X line was written; or it stopped.
-abbrev pub RunAnswers : Ended → Option (List ℕ) → Option (List ℕ) → Option (List ℕ) → Option (List ℕ) → Type 0
-RunAnswers (Finished ending) left left_after before after =
+abbrev pub RunAnswers : Ended → Io → Type 0
+RunAnswers (Finished ending) io =
     (h : Header) × (text : List ℕ) × (trace : List TraceLine) × (refused : Option ℕ)
-    × IsJobOf left h text trace refused × IsTrace (shape_of h) trace × IsServed h text trace refused left left_after before after ending
-RunAnswers RefusedOpening left left_after before after = (reason : ℕ) × IsNoJob left reason × Appends before after (spelled (RefusedLine 0 reason))
-RunAnswers (Stopped stop) left left_after before after = Answers (status_of stop) left left_after before after
+    × IsJobOf io.had h text trace refused × IsTrace (shape_of h) trace × IsServed h text trace refused io.had io.left io.written_before io.written_after ending
+RunAnswers RefusedOpening io = (reason : ℕ) × IsNoJob io.had reason × Appends io.written_before io.written_after (spelled (RefusedLine 0 reason))
+RunAnswers (Stopped stop) io = Answers (status_of stop) io

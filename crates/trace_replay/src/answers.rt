@@ -25,10 +25,10 @@ pub(crate) fn put_answers<K: Sink>(held: &mut RequestBuffer, sink: &mut K) -> Re
         → held.new ≡ kept_of h trace run (before + length (ready rs run)) (still_held rs run)) }
     ensures wrote { OnOk result ((h : AnyHeader) (trace : List AnyLine) (run : Run) (before : ℕ) (rs : List AnyRequest) → held.old ≡ kept_of h trace run before rs
         → Appends (K.written sink.old) (K.written sink.new) (flat_map spelled (answers h trace run (ready rs run)))) }
-    ensures cut { IfErr result (λ stop. (h : AnyHeader) (trace : List AnyLine) (run : Run) (before : ℕ) (rs : List AnyRequest) → held.old ≡ kept_of h trace run before rs
+    ensures writes_a_prefix { IfErr result (λ stop. (h : AnyHeader) (trace : List AnyLine) (run : Run) (before : ℕ) (rs : List AnyRequest) → held.old ≡ kept_of h trace run before rs
         → AppendsPrefix (K.written sink.old) (K.written sink.new) (flat_map spelled (answers h trace run (ready rs run)))) }
-    ensures later { K.faults sink.old ≤ K.faults sink.new }
-    ensures kept { OnOk result (K.faults sink.new ≡ K.faults sink.old) }
+    ensures faults_never_fall { K.faults sink.old ≤ K.faults sink.new }
+    ensures faults_kept { OnOk result (K.faults sink.new ≡ K.faults sink.old) }
     ensures cause { IfErr result (WriteCause (K.faults sink.old) (K.faults sink.new)) }
 {
     'answers: loop {
@@ -42,9 +42,9 @@ pub(crate) fn put_answers<K: Sink>(held: &mut RequestBuffer, sink: &mut K) -> Re
 // Writes the D line of a read that was served, and nothing for a write.
 fn put_answer<K: Sink>(served: &HeldRequest, sink: &mut K) -> Result<(), Stop>
     ensures whole { OnOk result (Appends (K.written sink.old) (K.written sink.new) (flat_map spelled (answer_lines served.now))) }
-    ensures cut { IfErr result (λ stop. AppendsPrefix (K.written sink.old) (K.written sink.new) (flat_map spelled (answer_lines served.now))) }
-    ensures later { K.faults sink.old ≤ K.faults sink.new }
-    ensures kept { OnOk result (K.faults sink.new ≡ K.faults sink.old) }
+    ensures writes_a_prefix { IfErr result (λ stop. AppendsPrefix (K.written sink.old) (K.written sink.new) (flat_map spelled (answer_lines served.now))) }
+    ensures faults_never_fall { K.faults sink.old ≤ K.faults sink.new }
+    ensures faults_kept { OnOk result (K.faults sink.new ≡ K.faults sink.old) }
     ensures cause { IfErr result (WriteCause (K.faults sink.old) (K.faults sink.new)) }
 {
     match &served.outcome {
@@ -61,9 +61,9 @@ fn put_value<K: Sink>(
     sink: &mut K,
 ) -> Result<(), Stop>
     ensures whole { OnOk result (Appends (K.written sink.old) (K.written sink.new) (spelled (ValueLine number line read.now.bytes read.now.state))) }
-    ensures cut { IfErr result (λ stop. AppendsPrefix (K.written sink.old) (K.written sink.new) (spelled (ValueLine number line read.now.bytes read.now.state))) }
-    ensures later { K.faults sink.old ≤ K.faults sink.new }
-    ensures kept { OnOk result (K.faults sink.new ≡ K.faults sink.old) }
+    ensures writes_a_prefix { IfErr result (λ stop. AppendsPrefix (K.written sink.old) (K.written sink.new) (spelled (ValueLine number line read.now.bytes read.now.state))) }
+    ensures faults_never_fall { K.faults sink.old ≤ K.faults sink.new }
+    ensures faults_kept { OnOk result (K.faults sink.new ≡ K.faults sink.old) }
     ensures cause { IfErr result (WriteCause (K.faults sink.old) (K.faults sink.new)) }
 {
     put_line(

@@ -22,12 +22,12 @@ impl ReplayState {
         requires known { IsKnown self.old.ahead }
         ensures under { OnOk result ((h : AnyHeader) (start left before : Option (List ℕ)) → IsAtRest h self.old start left before (K.written sink.old)
             → IsUnder h self.new start left before (K.written sink.new)) }
-        ensures cut { IfErr result (λ stop. (h : AnyHeader) (start left before : Option (List ℕ)) → IsAtRest h self.old start left before (K.written sink.old)
+        ensures begins_a_report { IfErr result (λ stop. (h : AnyHeader) (start left before : Option (List ℕ)) → IsAtRest h self.old start left before (K.written sink.old)
             → IsBegun h start before (K.written sink.new)) }
         ensures fewer { OnOk result (left_of self.new < left_of self.old) }
         ensures reader { (last : AnyEnd) → MayGoOn self.old.ahead last → MayGoOn self.new.ahead last }
-        ensures later { K.faults sink.old ≤ K.faults sink.new }
-        ensures kept { OnOk result (K.faults sink.new ≡ K.faults sink.old) }
+        ensures faults_never_fall { K.faults sink.old ≤ K.faults sink.new }
+        ensures faults_kept { OnOk result (K.faults sink.new ≡ K.faults sink.old) }
         ensures cause { IfErr result (WriteCause (K.faults sink.old) (K.faults sink.new)) }
     {
         reports::laws::carries_out_an_idle();
@@ -59,12 +59,12 @@ impl ReplayState {
         requires ahead { self.old.ahead ≡ Ahead.NextLine line.now }
         ensures under { OnOk result ((h : AnyHeader) (start left before : Option (List ℕ)) → IsAtRest h self.old start left before (K.written sink.old)
             → IsUnder h self.new start left before (K.written sink.new)) }
-        ensures cut { IfErr result (λ stop. (h : AnyHeader) (start left before : Option (List ℕ)) → IsAtRest h self.old start left before (K.written sink.old)
+        ensures begins_a_report { IfErr result (λ stop. (h : AnyHeader) (start left before : Option (List ℕ)) → IsAtRest h self.old start left before (K.written sink.old)
             → IsBegun h start before (K.written sink.new)) }
         ensures fewer { OnOk result (left_of self.new < left_of self.old) }
         ensures reader { (last : AnyEnd) → MayGoOn self.old.ahead last → MayGoOn self.new.ahead last }
-        ensures later { K.faults sink.old ≤ K.faults sink.new }
-        ensures kept { OnOk result (K.faults sink.new ≡ K.faults sink.old) }
+        ensures faults_never_fall { K.faults sink.old ≤ K.faults sink.new }
+        ensures faults_kept { OnOk result (K.faults sink.new ≡ K.faults sink.old) }
         ensures cause { IfErr result (WriteCause (K.faults sink.old) (K.faults sink.new)) }
     {
         match line {
@@ -108,12 +108,12 @@ impl ReplayState {
         requires ahead { self.old.ahead ≡ Ahead.NextLine (AnyFlip line device bit) }
         ensures under { OnOk result ((h : AnyHeader) (start left before : Option (List ℕ)) → IsAtRest h self.old start left before (K.written sink.old)
             → IsUnder h self.new start left before (K.written sink.new)) }
-        ensures cut { IfErr result (λ stop. (h : AnyHeader) (start left before : Option (List ℕ)) → IsAtRest h self.old start left before (K.written sink.old)
+        ensures begins_a_report { IfErr result (λ stop. (h : AnyHeader) (start left before : Option (List ℕ)) → IsAtRest h self.old start left before (K.written sink.old)
             → IsBegun h start before (K.written sink.new)) }
         ensures fewer { OnOk result (left_of self.new < left_of self.old) }
         ensures reader { (last : AnyEnd) → MayGoOn self.old.ahead last → MayGoOn self.new.ahead last }
-        ensures later { K.faults sink.old ≤ K.faults sink.new }
-        ensures kept { OnOk result (K.faults sink.new ≡ K.faults sink.old) }
+        ensures faults_never_fall { K.faults sink.old ≤ K.faults sink.new }
+        ensures faults_kept { OnOk result (K.faults sink.new ≡ K.faults sink.old) }
         ensures cause { IfErr result (WriteCause (K.faults sink.old) (K.faults sink.new)) }
     {
         reports::laws::carries_out_a_flip();

@@ -79,14 +79,14 @@ impl Coupled {
     pub fn offer(&mut self, request: Request) -> Result<RequestId, Request>
         requires unfinished { finished_of self.old ≡ false }
         requires inside { request.line < lines_of (shape_of (header_of self.old)) }
-        ensures ok { IfOk result (λ id. (h : AnyHeader) (offered : List AnyRequest) (idle : ℕ) (steps : List Step) → StandsFor self.old h offered idle steps
+        ensures stands { IfOk result (λ id. (h : AnyHeader) (offered : List AnyRequest) (idle : ℕ) (steps : List Step) → StandsFor self.old h offered idle steps
             → StandsFor self.new h (offered ++ request ∷ []) idle steps) }
         ensures number { IfOk result (λ id. (h : AnyHeader) (offered : List AnyRequest) (idle : ℕ) (steps : List Step) → StandsFor self.old h offered idle steps
             → id.0 ≡ length offered + 1) }
         ensures full { (h : AnyHeader) (offered : List AnyRequest) (idle : ℕ) (steps : List Step) → StandsFor self.old h offered idle steps
             → (IsErr result ↔ IsFull (length offered) (waiting h offered (with_pending (pending_of self.old) (controller_steps steps)))) }
         ensures back { IfErr result (λ it. it ≡ request) }
-        ensures err { OnErr result (self.new ≡ self.old) }
+        ensures unchanged { OnErr result (self.new ≡ self.old) }
         ensures pending { pending_of self.new ≡ pending_of self.old }
         ensures header { header_of self.new ≡ header_of self.old }
         ensures from { from_of self.new ≡ from_of self.old }
@@ -165,7 +165,7 @@ impl Coupled {
             → pending_of self.old ≡ Some step → reply.alert ≡ is_some (alert_after h (step.issued ∷ log_of steps))) }
         ensures done { OnOk result (pending_of self.new ≡ None) }
         ensures only_writes { OnErr result ((step : NumberedStep) → pending_of self.old ≡ Some step → IsTrue (is_wr step.issued.command)) }
-        ensures still { OnErr result (pending_of self.new ≡ pending_of self.old) }
+        ensures pending_kept { OnErr result (pending_of self.new ≡ pending_of self.old) }
         ensures unchanged { OnErr result ((h : AnyHeader) (offered : List AnyRequest) (idle : ℕ) (steps : List Step) → StandsFor self.old h offered idle steps
             → StandsFor self.new h offered idle steps) }
         ensures header { header_of self.new ≡ header_of self.old }

@@ -30,9 +30,9 @@ impl Ending {
     /// Writes the S lines, the E line, and an X line where a line of the trace was refused.
     pub fn write<K: Sink>(&self, sink: &mut K) -> Result<(), Stop>
         ensures whole { OnOk result (Appends (K.written sink.old) (K.written sink.new) (flat_map spelled (end_lines self.now))) }
-        ensures cut { IfErr result (λ stop. AppendsPrefix (K.written sink.old) (K.written sink.new) (flat_map spelled (end_lines self.now))) }
-        ensures later { K.faults sink.old ≤ K.faults sink.new }
-        ensures kept { OnOk result (K.faults sink.new ≡ K.faults sink.old) }
+        ensures writes_a_prefix { IfErr result (λ stop. AppendsPrefix (K.written sink.old) (K.written sink.new) (flat_map spelled (end_lines self.now))) }
+        ensures faults_never_fall { K.faults sink.old ≤ K.faults sink.new }
+        ensures faults_kept { OnOk result (K.faults sink.new ≡ K.faults sink.old) }
         ensures cause { IfErr result (WriteCause (K.faults sink.old) (K.faults sink.new)) }
     {
         put_stats(&self.counts, self.peak, &self.scrub, sink)?;
@@ -43,9 +43,9 @@ impl Ending {
 // Writes the E line, and the X line of a refusal.
 fn put_end<K: Sink>(clock: Clock, refusal: Option<(u64, u8)>, sink: &mut K) -> Result<(), Stop>
     ensures whole { OnOk result (Appends (K.written sink.old) (K.written sink.new) (flat_map spelled (EndLine clock ∷ refused_line refusal))) }
-    ensures cut { IfErr result (λ stop. AppendsPrefix (K.written sink.old) (K.written sink.new) (flat_map spelled (EndLine clock ∷ refused_line refusal))) }
-    ensures later { K.faults sink.old ≤ K.faults sink.new }
-    ensures kept { OnOk result (K.faults sink.new ≡ K.faults sink.old) }
+    ensures writes_a_prefix { IfErr result (λ stop. AppendsPrefix (K.written sink.old) (K.written sink.new) (flat_map spelled (EndLine clock ∷ refused_line refusal))) }
+    ensures faults_never_fall { K.faults sink.old ≤ K.faults sink.new }
+    ensures faults_kept { OnOk result (K.faults sink.new ≡ K.faults sink.old) }
     ensures cause { IfErr result (WriteCause (K.faults sink.old) (K.faults sink.new)) }
 {
     put_line(&ReportLine::End(clock), sink)?;
@@ -55,9 +55,9 @@ fn put_end<K: Sink>(clock: Clock, refusal: Option<(u64, u8)>, sink: &mut K) -> R
 // Writes the X line of a refusal.
 fn put_refusal<K: Sink>(refusal: Option<(u64, u8)>, sink: &mut K) -> Result<(), Stop>
     ensures whole { OnOk result (Appends (K.written sink.old) (K.written sink.new) (flat_map spelled (refused_line refusal))) }
-    ensures cut { IfErr result (λ stop. AppendsPrefix (K.written sink.old) (K.written sink.new) (flat_map spelled (refused_line refusal))) }
-    ensures later { K.faults sink.old ≤ K.faults sink.new }
-    ensures kept { OnOk result (K.faults sink.new ≡ K.faults sink.old) }
+    ensures writes_a_prefix { IfErr result (λ stop. AppendsPrefix (K.written sink.old) (K.written sink.new) (flat_map spelled (refused_line refusal))) }
+    ensures faults_never_fall { K.faults sink.old ≤ K.faults sink.new }
+    ensures faults_kept { OnOk result (K.faults sink.new ≡ K.faults sink.old) }
     ensures cause { IfErr result (WriteCause (K.faults sink.old) (K.faults sink.new)) }
 {
     match refusal {

@@ -36,7 +36,7 @@ pub enum Ended {
 /// lines, the E line, and an X line where a line of the trace is refused. Of an opening that is refused it writes the X line alone.
 #[inline(never)]
 pub fn replay<S: Source, K: Sink>(alloc: Global, source: &mut S, sink: &mut K) -> Status
-    ensures answer { Answers result (S.left source.old) (S.left source.new) (K.written sink.old) (K.written sink.new) }
+    ensures answer { Answers result (record { had = S.left source.old; left = S.left source.new; written_before = K.written sink.old; written_after = K.written sink.new }) }
 
     // A job with nothing to refuse is not refused.
     ensures complete { (bytes : List ℕ) (h : AnyHeader) (text : List ℕ) (trace : List TraceLine) → S.left source.old ≡ Some bytes
@@ -77,15 +77,15 @@ fn end_report<K: Sink>(ending: &Ending, sink: &mut K) -> Status
 /// Reads a job, and writes its report as the run goes on, but for the lines that end it: those it answers. Of an opening that is
 /// refused it writes the whole report.
 pub fn run_job<S: Source, K: Sink>(alloc: Global, source: &mut S, sink: &mut K) -> Ended
-    ensures answer { RunAnswers result (S.left source.old) (S.left source.new) (K.written sink.old) (K.written sink.new) }
+    ensures answer { RunAnswers result (record { had = S.left source.old; left = S.left source.new; written_before = K.written sink.old; written_after = K.written sink.new }) }
 
     // Of a job with nothing to refuse nothing is refused.
     ensures complete { (bytes : List ℕ) (h : AnyHeader) (text : List ℕ) (trace : List TraceLine) → S.left source.old ≡ Some bytes
         → IsJobOf (Some bytes) h text trace None → IsUnrefused result }
 
-    ensures kept { EndKept (S.faults source.old) (S.faults source.new) (K.faults sink.old) (K.faults sink.new) result }
-    ensures later { S.faults source.old ≤ S.faults source.new }
-    ensures later_written { K.faults sink.old ≤ K.faults sink.new }
+    ensures faults_kept { EndKept (S.faults source.old) (S.faults source.new) (K.faults sink.old) (K.faults sink.new) result }
+    ensures faults_never_fall { S.faults source.old ≤ S.faults source.new }
+    ensures write_faults_never_fall { K.faults sink.old ≤ K.faults sink.new }
     ensures cause { EndCause (S.faults source.old) (S.faults source.new) (K.faults sink.old) (K.faults sink.new) result }
 {
     let mut reader = LineReader::new();
@@ -102,8 +102,8 @@ pub fn run_job<S: Source, K: Sink>(alloc: Global, source: &mut S, sink: &mut K) 
 // Writes the report of a job whose opening is refused.
 fn refuse_opening<K: Sink>(reason: u8, sink: &mut K) -> Ended
     ensures answer { OpeningEnds result reason (K.written sink.old) (K.written sink.new) }
-    ensures kept { (read : ℕ) → EndKept read read (K.faults sink.old) (K.faults sink.new) result }
-    ensures later_written { K.faults sink.old ≤ K.faults sink.new }
+    ensures faults_kept { (read : ℕ) → EndKept read read (K.faults sink.old) (K.faults sink.new) result }
+    ensures write_faults_never_fall { K.faults sink.old ≤ K.faults sink.new }
     ensures cause { (read : ℕ) → EndCause read read (K.faults sink.old) (K.faults sink.new) result }
 {
     match put_line(&ReportLine::Refused(0, reason), sink) {
@@ -125,9 +125,9 @@ fn run_trace<S: Source, K: Sink>(
     requires going_on { reader.old.last ≡ AfterText }
     ensures answer { (start : Option (List ℕ)) → Continues (shape_of header.now) [] start [] (next_bytes reader.old.held (S.left source.old))
         → TraceEnds result header.now text.now start (S.left source.new) (K.written sink.old) (K.written sink.new) }
-    ensures kept { EndKept (S.faults source.old) (S.faults source.new) (K.faults sink.old) (K.faults sink.new) result }
-    ensures later { S.faults source.old ≤ S.faults source.new }
-    ensures later_written { K.faults sink.old ≤ K.faults sink.new }
+    ensures faults_kept { EndKept (S.faults source.old) (S.faults source.new) (K.faults sink.old) (K.faults sink.new) result }
+    ensures faults_never_fall { S.faults source.old ≤ S.faults source.new }
+    ensures write_faults_never_fall { K.faults sink.old ≤ K.faults sink.new }
     ensures cause { EndCause (S.faults source.old) (S.faults source.new) (K.faults sink.old) (K.faults sink.new) result }
 {
     match serve_trace(alloc, header, text, reader, source, sink) {
@@ -150,11 +150,11 @@ fn serve_trace<S: Source, K: Sink>(
     requires going_on { reader.old.last ≡ AfterText }
     ensures served { IfOk result (λ ending. (start : Option (List ℕ)) → Continues (shape_of header.now) [] start [] (next_bytes reader.old.held (S.left source.old))
         → TraceServed header.now text.now start (S.left source.new) (K.written sink.old) (K.written sink.new) ending) }
-    ensures cut { IfErr result (λ stop. (start : Option (List ℕ)) → Continues (shape_of header.now) [] start [] (next_bytes reader.old.held (S.left source.old))
+    ensures answered_so_far { IfErr result (λ stop. (start : Option (List ℕ)) → Continues (shape_of header.now) [] start [] (next_bytes reader.old.held (S.left source.old))
         → TraceAnswers (status_of stop) header.now text.now start (S.left source.new) (K.written sink.old) (K.written sink.new)) }
-    ensures kept { OnOk result ((S.faults source.new ≡ S.faults source.old) × (K.faults sink.new ≡ K.faults sink.old)) }
-    ensures later { S.faults source.old ≤ S.faults source.new }
-    ensures later_written { K.faults sink.old ≤ K.faults sink.new }
+    ensures faults_kept { OnOk result ((S.faults source.new ≡ S.faults source.old) × (K.faults sink.new ≡ K.faults sink.old)) }
+    ensures faults_never_fall { S.faults source.old ≤ S.faults source.new }
+    ensures write_faults_never_fall { K.faults sink.old ≤ K.faults sink.new }
     ensures cause { IfErr result (StopCause (S.faults source.old) (S.faults source.new) (K.faults sink.old) (K.faults sink.new)) }
 {
     reports::laws::headline();
@@ -193,11 +193,11 @@ fn serve<S: Source, K: Sink>(
     ensures holds { OnOk result ((h : AnyHeader) × (trace : List TraceLine) × (run : Run) × LoopInvariant h progress.new trace run) }
     ensures over { OnOk result ((h : AnyHeader) (start before : Option (List ℕ)) → IsUnder h progress.old start (next_bytes reader.old.held (S.left source.old)) before (K.written sink.old)
         → IsOver h progress.new start (next_bytes reader.new.held (S.left source.new)) before (K.written sink.new)) }
-    ensures cut { IfErr result (λ stop. (h : AnyHeader) (start before : Option (List ℕ)) → IsUnder h progress.old start (next_bytes reader.old.held (S.left source.old)) before (K.written sink.old)
+    ensures begins_a_report { IfErr result (λ stop. (h : AnyHeader) (start before : Option (List ℕ)) → IsUnder h progress.old start (next_bytes reader.old.held (S.left source.old)) before (K.written sink.old)
         → StopsServing stop h start (S.left source.new) before (K.written sink.new)) }
-    ensures kept { OnOk result ((S.faults source.new ≡ S.faults source.old) × (K.faults sink.new ≡ K.faults sink.old)) }
-    ensures later { S.faults source.old ≤ S.faults source.new }
-    ensures later_written { K.faults sink.old ≤ K.faults sink.new }
+    ensures faults_kept { OnOk result ((S.faults source.new ≡ S.faults source.old) × (K.faults sink.new ≡ K.faults sink.old)) }
+    ensures faults_never_fall { S.faults source.old ≤ S.faults source.new }
+    ensures write_faults_never_fall { K.faults sink.old ≤ K.faults sink.new }
     ensures cause { IfErr result (StopCause (S.faults source.old) (S.faults source.new) (K.faults sink.old) (K.faults sink.new)) }
 {
     'turns: loop {

@@ -172,14 +172,14 @@ impl ReplayState {
         requires holds { (h : AnyHeader) × (trace : List AnyLine) × (run : Run) × LoopInvariant h self.old trace run }
         ensures ready { OnOk result ((h : AnyHeader) (start before written : Option (List ℕ)) → IsUnder h self.old start (next_bytes reader.old.held (S.left source.old)) before written
             → IsReady h self.new start (next_bytes reader.new.held (S.left source.new)) before written) }
-        ensures cut { IfErr result (λ stop. (h : AnyHeader) (start before written : Option (List ℕ)) → IsUnder h self.old start (next_bytes reader.old.held (S.left source.old)) before written
+        ensures begins_a_report { IfErr result (λ stop. (h : AnyHeader) (start before written : Option (List ℕ)) → IsUnder h self.old start (next_bytes reader.old.held (S.left source.old)) before written
             → IsStoppedByReadFault h start (S.left source.new) before written) }
         ensures fewer { left_of self.new ≤ left_of self.old }
         ensures going_on { OnOk result (MayGoOn self.new.ahead reader.new.last) }
         // Behind a line that is refused nothing more is asked for.
         ensures unasked { (reason : ℕ) → self.old.ahead ≡ Ahead.Refused reason → source.new ≡ source.old }
-        ensures later { S.faults source.old ≤ S.faults source.new }
-        ensures kept { OnOk result (S.faults source.new ≡ S.faults source.old) }
+        ensures faults_never_fall { S.faults source.old ≤ S.faults source.new }
+        ensures faults_kept { OnOk result (S.faults source.new ≡ S.faults source.old) }
         ensures cause { IfErr result (ReadCause (S.faults source.old) (S.faults source.new)) }
     {
         'lines: loop {
@@ -197,7 +197,7 @@ impl ReplayState {
         ensures under { OnOk result ((h : AnyHeader) (start before written : Option (List ℕ)) → IsUnder h self.old start (next_bytes reader.old.held (S.left source.old)) before written
             → IsUnder h self.new start (next_bytes reader.new.held (S.left source.new)) before written) }
         ensures known { OnOk result (IsKnown self.new.ahead) }
-        ensures cut { IfErr result (λ stop. (h : AnyHeader) (start before written : Option (List ℕ)) → IsUnder h self.old start (next_bytes reader.old.held (S.left source.old)) before written
+        ensures begins_a_report { IfErr result (λ stop. (h : AnyHeader) (start before written : Option (List ℕ)) → IsUnder h self.old start (next_bytes reader.old.held (S.left source.old)) before written
             → IsStoppedByReadFault h start (S.left source.new) before written) }
         ensures fewer { left_of self.new ≤ left_of self.old }
         ensures lines { self.new.tally ≡ self.old.tally }
@@ -205,8 +205,8 @@ impl ReplayState {
         // A line that is known is not asked for again.
         ensures unasked { IsKnown self.old.ahead → source.new ≡ source.old }
         ensures known_still { IsKnown self.old.ahead → self.new ≡ self.old }
-        ensures later { S.faults source.old ≤ S.faults source.new }
-        ensures kept { OnOk result (S.faults source.new ≡ S.faults source.old) }
+        ensures faults_never_fall { S.faults source.old ≤ S.faults source.new }
+        ensures faults_kept { OnOk result (S.faults source.new ≡ S.faults source.old) }
         ensures cause { IfErr result (ReadCause (S.faults source.old) (S.faults source.new)) }
     {
         match self.ahead {

@@ -52,8 +52,8 @@ pub(crate) fn next_line<S: Source>(
     ensures may_stand { IfOk result (MayStand g tally) }
     ensures going_on { IfOk result (GoesOn reader.new.last) }
     ensures unread { IfErr result (λ stop. IsUnread reader.new.held (next_bytes reader.old.held (S.left source.old)) (next_bytes reader.new.held (S.left source.new))) }
-    ensures later { S.faults source.old ≤ S.faults source.new }
-    ensures kept { OnOk result (S.faults source.new ≡ S.faults source.old) }
+    ensures faults_never_fall { S.faults source.old ≤ S.faults source.new }
+    ensures faults_kept { OnOk result (S.faults source.new ≡ S.faults source.old) }
     ensures cause { IfErr result (ReadCause (S.faults source.old) (S.faults source.new)) }
 {
     ddr_text::laws::lines_are_parts();

@@ -37,12 +37,12 @@ impl ReplayState {
         requires ready { (h : AnyHeader) × (trace : List AnyLine) × (run : Run) × (LoopInvariant h self.old trace run) × IsOffered h trace run (following self.old.ahead) }
         ensures after { IfOk result (λ goes_on. (h : AnyHeader) (start left before : Option (List ℕ)) → IsReady h self.old start left before (K.written sink.old)
             → TurnAfter goes_on h self.new start left before (K.written sink.new)) }
-        ensures cut { IfErr result (λ stop. (h : AnyHeader) (start left before : Option (List ℕ)) → IsReady h self.old start left before (K.written sink.old)
+        ensures begins_a_report { IfErr result (λ stop. (h : AnyHeader) (start left before : Option (List ℕ)) → IsReady h self.old start left before (K.written sink.old)
             → IsBegun h start before (K.written sink.new)) }
         ensures fewer { IfOk result (λ goes_on. goes_on ≡ true → left_of self.new < left_of self.old) }
         ensures reader { (last : AnyEnd) → MayGoOn self.old.ahead last → MayGoOn self.new.ahead last }
-        ensures later { K.faults sink.old ≤ K.faults sink.new }
-        ensures kept { OnOk result (K.faults sink.new ≡ K.faults sink.old) }
+        ensures faults_never_fall { K.faults sink.old ≤ K.faults sink.new }
+        ensures faults_kept { OnOk result (K.faults sink.new ≡ K.faults sink.old) }
         ensures cause { IfErr result (WriteCause (K.faults sink.old) (K.faults sink.new)) }
     {
         reports::laws::issues_a_command();
@@ -100,15 +100,15 @@ impl ReplayState {
             → LoopInvariant h self.new trace (issue trace clock command (number_of id) ∷ run)) }
         ensures wrote { OnOk result ((h : AnyHeader) (trace : List AnyLine) (run : Run) → IsIssuing h self.old trace run clock command id
             → Appends (K.written sink.old) (K.written sink.new) (flat_map spelled (latest h trace run (issue trace clock command (number_of id))))) }
-        ensures cut { IfErr result (λ stop. (h : AnyHeader) (trace : List AnyLine) (run : Run) → IsIssuing h self.old trace run clock command id
+        ensures writes_a_prefix { IfErr result (λ stop. (h : AnyHeader) (trace : List AnyLine) (run : Run) → IsIssuing h self.old trace run clock command id
             → AppendsPrefix (K.written sink.old) (K.written sink.new) (flat_map spelled (latest h trace run (issue trace clock command (number_of id))))) }
         ensures commands { OnOk result (self.new.commands ≡ self.old.commands + 1) }
         ensures few { OnOk result (self.old.commands < 2200000000) }
         ensures tally { self.new.tally ≡ self.old.tally }
         ensures ahead { self.new.ahead ≡ self.old.ahead }
         ensures finished { finished_of self.new.coupled ≡ finished_of self.old.coupled }
-        ensures later { K.faults sink.old ≤ K.faults sink.new }
-        ensures kept { OnOk result (K.faults sink.new ≡ K.faults sink.old) }
+        ensures faults_never_fall { K.faults sink.old ≤ K.faults sink.new }
+        ensures faults_kept { OnOk result (K.faults sink.new ≡ K.faults sink.old) }
         ensures cause { IfErr result (WriteCause (K.faults sink.old) (K.faults sink.new)) }
     {
         reports::laws::takes_from_the_held();
@@ -129,7 +129,7 @@ impl ReplayState {
         ensures few { OnOk result (self.old.commands < 2200000000) }
         ensures tally { self.new.tally ≡ self.old.tally }
         ensures ahead { self.new.ahead ≡ self.old.ahead }
-        ensures g { self.new.g ≡ self.old.g }
+        ensures geometry_kept { self.new.g ≡ self.old.g }
         ensures from { from_of self.new.coupled ≡ from_of self.old.coupled }
         ensures until { until_of self.new.coupled ≡ until_of self.old.coupled }
         ensures finished { finished_of self.new.coupled ≡ finished_of self.old.coupled }
@@ -211,9 +211,9 @@ fn note_outcome(held: &mut RequestBuffer, id: Option<RequestId>, outcome: Outcom
 // Writes the C line of a command.
 fn put_issued<K: Sink>(clock: Clock, command: &Command, sink: &mut K) -> Result<(), Stop>
     ensures whole { OnOk result (Appends (K.written sink.old) (K.written sink.new) (spelled (IssuedLine clock command.now))) }
-    ensures cut { IfErr result (λ stop. AppendsPrefix (K.written sink.old) (K.written sink.new) (spelled (IssuedLine clock command.now))) }
-    ensures later { K.faults sink.old ≤ K.faults sink.new }
-    ensures kept { OnOk result (K.faults sink.new ≡ K.faults sink.old) }
+    ensures writes_a_prefix { IfErr result (λ stop. AppendsPrefix (K.written sink.old) (K.written sink.new) (spelled (IssuedLine clock command.now))) }
+    ensures faults_never_fall { K.faults sink.old ≤ K.faults sink.new }
+    ensures faults_kept { OnOk result (K.faults sink.new ≡ K.faults sink.old) }
     ensures cause { IfErr result (WriteCause (K.faults sink.old) (K.faults sink.new)) }
 {
     put_line(&ReportLine::Issued(clock, *command), sink)

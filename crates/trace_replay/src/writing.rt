@@ -44,9 +44,9 @@ pub(crate) fn put_stats<K: Sink>(
     sink: &mut K,
 ) -> Result<(), Stop>
     ensures whole { OnOk result (Appends (K.written sink.old) (K.written sink.new) (flat_map spelled (stat_lines (with_peak counts.now peak) scrub.now))) }
-    ensures cut { IfErr result (λ stop. AppendsPrefix (K.written sink.old) (K.written sink.new) (flat_map spelled (stat_lines (with_peak counts.now peak) scrub.now))) }
-    ensures later { K.faults sink.old ≤ K.faults sink.new }
-    ensures kept { OnOk result (K.faults sink.new ≡ K.faults sink.old) }
+    ensures writes_a_prefix { IfErr result (λ stop. AppendsPrefix (K.written sink.old) (K.written sink.new) (flat_map spelled (stat_lines (with_peak counts.now peak) scrub.now))) }
+    ensures faults_never_fall { K.faults sink.old ≤ K.faults sink.new }
+    ensures faults_kept { OnOk result (K.faults sink.new ≡ K.faults sink.old) }
     ensures cause { IfErr result (WriteCause (K.faults sink.old) (K.faults sink.new)) }
 {
     put_lines(&lines_of(counts, peak, scrub), sink)

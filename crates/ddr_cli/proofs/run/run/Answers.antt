@@ -2,6 +2,7 @@ use Rattle.std.proofs.Common.{subst}
 use Rattle.std.specs.Prelude.{codes}
 use Rattle.fair_queue.specs.Answering.{MergeAnswers}
 use Rattle.fair_queue.specs.Serving.{PortsAnswers}
+use Rattle.ddr_text.specs.Io.{io}
 use Rattle.ddr_text.specs.Outcome.{AnswersAs}
 use Rattle.device_exec.specs.Promises.{IsFlawless, JudgesInOrder}
 use Rattle.spare_device.specs.Promises.{ReadsWell}
@@ -46,12 +47,12 @@ returns-in-None-clause-ported g c = λ cap is. absurd (c.in-None.ensures (Ports 
 
 pub returns-in-Some-Ports-clause-ported : goal.returns-in-Some-Ports-clause-ported
 returns-in-Some-Ports-clause-ported g c = λ cap is.
-    subst (λ n. PortsAnswers n c.ports.result (g.S.Source.left c.args.source.now) (g.S.Source.left c.ports.new.source) (g.K.Sink.written c.args.sink.now) (g.K.Sink.written c.ports.new.sink))
+    subst (λ n. PortsAnswers n c.ports.result (io (g.S.Source.left c.args.source.now) (g.S.Source.left c.ports.new.source) (g.K.Sink.written c.args.sink.now) (g.K.Sink.written c.ports.new.sink)))
     (same_number 1 32 (codes "ports") c.args.words.now c.in-Some-Ports.cap cap (rw c.in-Some-Ports.field-0-is at c.in-Some-Ports.ensures) is) c.ports.ensures.answer
 
 pub returns-in-Some-Merge-clause-merged : goal.returns-in-Some-Merge-clause-merged
 returns-in-Some-Merge-clause-merged g c = λ cap is.
-    subst (λ n. MergeAnswers n c.merge.result (g.S.Source.left c.args.source.now) (g.S.Source.left c.merge.new.source) (g.K.Sink.written c.args.sink.now) (g.K.Sink.written c.merge.new.sink))
+    subst (λ n. MergeAnswers n c.merge.result (io (g.S.Source.left c.args.source.now) (g.S.Source.left c.merge.new.source) (g.K.Sink.written c.args.sink.now) (g.K.Sink.written c.merge.new.sink)))
     (same_number 1 32 (codes "merge") c.args.words.now c.in-Some-Merge.cap cap (rw c.in-Some-Merge.field-0-is at c.in-Some-Merge.ensures) is) c.merge.ensures.answer
 
 pub returns-in-None-clause-fair : goal.returns-in-None-clause-fair
@@ -97,7 +98,7 @@ spare-requires g c =
 
 pub returns-in-Some-Spare-clause-spared : goal.returns-in-Some-Spare-clause-spared
 returns-in-Some-Spare-clause-spared g c = λ dead is.
-    subst (λ n. AnswersAs (IsSpared n (g.S.Source.left c.args.source.now)) c.spare.result (g.S.Source.left c.args.source.now) (g.S.Source.left c.spare.new.source) (g.K.Sink.written c.args.sink.now) (g.K.Sink.written c.spare.new.sink))
+    subst (λ n. AnswersAs (IsSpared n (g.S.Source.left c.args.source.now)) c.spare.result (io (g.S.Source.left c.args.source.now) (g.S.Source.left c.spare.new.source) (g.K.Sink.written c.args.sink.now) (g.K.Sink.written c.spare.new.sink)))
     (same_number 0 4 (codes "spare") c.args.words.now c.in-Some-Spare.dead dead (rw c.in-Some-Spare.field-0-is at c.in-Some-Spare.ensures) is) c.spare.ensures.answer
 
 pub returns-in-Some-Spare-clause-spare_judged : goal.returns-in-Some-Spare-clause-spare_judged

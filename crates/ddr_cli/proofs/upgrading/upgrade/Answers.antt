@@ -1,6 +1,7 @@
 use Rattle.std.proofs.Common.{◌∙◌, [], ap, subst, sym}
 use Rattle.ddr_io.specs.Line.{next_bytes}
 use Rattle.ddr_io.specs.declared.status.Status.{Status}
+use Rattle.ddr_text.specs.Io.{io}
 use Rattle.ddr_text.specs.Apart.{IsApart, IsApartAnswer}
 use Rattle.ddr_text.specs.Outcome.{AnswersAs}
 use Rattle.ddr_text.specs.declared.opening.Apart.TheVariants.{Accepted}
@@ -32,9 +33,9 @@ returns-in-Ok-Accepted-clause-answer g c =
     let accepted = c.in-Ok-Accepted in
     let opened = apart_at c.new-reader.result old mid _ _ c.new-reader.ensures accepted.field-0-is accepted.ensures.opening in
     let known = subst IsApartAnswer accepted.field-0-is accepted.ensures.answer in
-    subst (λ (t : Status). AnswersAs (IsUpgraded old) t old (g.S.Source.left c.open_apart.new.source) (g.K.Sink.written c.args.sink.now) (g.K.Sink.written c.put_heading.new.sink)) (sym c.status.ensures)
+    subst (λ (t : Status). AnswersAs (IsUpgraded old) t (io old (g.S.Source.left c.open_apart.new.source) (g.K.Sink.written c.args.sink.now) (g.K.Sink.written c.put_heading.new.sink))) (sym c.status.ensures)
     (upgrades-cut c.report_lines.ensures c.in-Err-put_heading.stop (g.K.Sink.faults c.args.sink.now) (g.K.Sink.faults c.put_heading.new.sink) old (g.S.Source.left c.open_apart.new.source) mid (g.K.Sink.written c.args.sink.now) (g.K.Sink.written c.put_heading.new.sink)
-    accepted.header accepted.text accepted.separator opened (known.1, known.2) c.in-Err-put_heading.ensures.cut c.in-Err-put_heading.ensures.cause)
+    accepted.header accepted.text accepted.separator opened (known.1, known.2) c.in-Err-put_heading.ensures.writes_a_prefix c.in-Err-put_heading.ensures.cause)
 
 pub returns-in-Ok-Refused-clause-answer : goal.returns-in-Ok-Refused-clause-answer
 returns-in-Ok-Refused-clause-answer g c =

@@ -1,6 +1,7 @@
 use Rattle.std.proofs.Common.{◌∙◌, arith, refl, subst, sym}
 use Rattle.ddr_io.specs.Line.{next_bytes}
 use Rattle.ddr_io.specs.declared.status.Status.{Status}
+use Rattle.ddr_text.specs.Io.{io}
 use Rattle.ddr_text.specs.Outcome.{AnswersAs}
 use Rattle.ddr_text.proofs.Outcomes.{refuses-no_read, rose-later, stop-kept, stop-no_broken, stop-no_read, stop-rose}
 use Rattle.ddr_cli.specs.Behind.{IsOutcomeBehind}
@@ -24,16 +25,16 @@ each-smaller g c = fewer_left c.each.lines c.next.new.self c.in-Line.line (c.nex
 pub each-preserved : goal.each-preserved
 each-preserved g c = record {
   so_far = next_written (written_as c.args.wording) c.args.lines c.each.lines c.next.new.self (next_bytes c.args.lines.reader.held (g.S.Source.left c.args.source.now)) (next_bytes c.each.lines.reader.held (g.S.Source.left c.each.source)) (next_bytes c.next.new.self.reader.held (g.S.Source.left c.next.new.source)) (g.K.Sink.written c.args.sink.now) (g.K.Sink.written c.each.sink) (g.K.Sink.written c.put_worded.new.sink) c.in-Line.line c.each.invariant.so_far c.in-Line.ensures.step (c.next.ensures.line c.in-Line.line c.in-Line.is) c.in-Ok.ensures.whole;
-  counted = grind (arith, c.each.invariant.counted, c.in-Line.ensures.kept);
-  writes = c.in-Ok.ensures.kept ∙ c.each.invariant.writes;
+  counted = grind (arith, c.each.invariant.counted, c.in-Line.ensures.faults_kept);
+  writes = c.in-Ok.ensures.faults_kept ∙ c.each.invariant.writes;
 }
 
 pub returns-in-Err-clause-written : goal.returns-in-Err-clause-written
 returns-in-Err-clause-written g c =
     let s = c.each.invariant.so_far in
     let first = next_bytes c.args.lines.reader.held (g.S.Source.left c.args.source.now) in
-    subst (λ (t : Status). AnswersAs (IsOutcomeBehind (written_as c.args.wording) c.args.lines first) t (g.S.Source.left c.args.source.now) (g.S.Source.left c.next.new.source) (g.K.Sink.written c.args.sink.now) (g.K.Sink.written c.put_worded.new.sink)) (sym c.status.ensures)
-    (writes_cut (written_as c.args.wording) c.args.lines c.each.lines c.next.new.self first (next_bytes c.each.lines.reader.held (g.S.Source.left c.each.source)) (next_bytes c.next.new.self.reader.held (g.S.Source.left c.next.new.source)) (g.S.Source.left c.args.source.now) (g.S.Source.left c.next.new.source) (g.K.Sink.written c.args.sink.now) (g.K.Sink.written c.each.sink) (g.K.Sink.written c.put_worded.new.sink) s.lines c.in-Line.line (g.K.Sink.faults c.each.sink) (g.K.Sink.faults c.put_worded.new.sink) c.in-Err.stop s.behind c.in-Line.ensures.step s.written c.in-Err.ensures.cut c.in-Err.ensures.cause)
+    subst (λ (t : Status). AnswersAs (IsOutcomeBehind (written_as c.args.wording) c.args.lines first) t (io (g.S.Source.left c.args.source.now) (g.S.Source.left c.next.new.source) (g.K.Sink.written c.args.sink.now) (g.K.Sink.written c.put_worded.new.sink))) (sym c.status.ensures)
+    (writes_cut (written_as c.args.wording) c.args.lines c.each.lines c.next.new.self first (next_bytes c.each.lines.reader.held (g.S.Source.left c.each.source)) (next_bytes c.next.new.self.reader.held (g.S.Source.left c.next.new.source)) (g.S.Source.left c.args.source.now) (g.S.Source.left c.next.new.source) (g.K.Sink.written c.args.sink.now) (g.K.Sink.written c.each.sink) (g.K.Sink.written c.put_worded.new.sink) s.lines c.in-Line.line (g.K.Sink.faults c.each.sink) (g.K.Sink.faults c.put_worded.new.sink) c.in-Err.stop s.behind c.in-Line.ensures.step s.written c.in-Err.ensures.writes_a_prefix c.in-Err.ensures.cause)
 
 pub returns-in-Err-clause-read : goal.returns-in-Err-clause-read
 returns-in-Err-clause-read g c = λ is. absurd (stop-no_read c.in-Err.stop (g.K.Sink.faults c.each.sink) (g.K.Sink.faults c.put_worded.new.sink) c.in-Err.ensures.cause (sym c.status.ensures ∙ is))

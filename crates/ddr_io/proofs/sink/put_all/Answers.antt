@@ -8,7 +8,7 @@ loop-rest-preserved g c =
     let (done, split, appended, counted) = c.loop-rest.invariant in
     let rest = c.loop-rest.rest.now in
     let n = c.in-Took.count in
-    (done ++ take n rest, moves_front _ done rest n split, Appends-trans _ _ _ _ _ appended c.in-Took.ensures.bytes, grind (arith, counted, c.in-Took.ensures.kept))
+    (done ++ take n rest, moves_front _ done rest n split, Appends-trans _ _ _ _ _ appended c.in-Took.ensures.bytes, grind (arith, counted, c.in-Took.ensures.faults_kept))
 
 pub returns-in-Failed-clause-bytes : goal.returns-in-Failed-clause-bytes
 returns-in-Failed-clause-bytes g c =

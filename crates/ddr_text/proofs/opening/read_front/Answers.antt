@@ -68,7 +68,7 @@ loop-reader-preserved g c =
       before = before-line c.loop-reader.text line c.push_line-in-Text-role_of.new.self more held.before next.1 next.0 is small;
       few = subst (λ t. length t ≤ 65536) (sym more) (within (c.loop-reader.text ++ with_feed line) small);
       going_on = c.in-Text.ensures.last;
-      counted = grind (arith, held.counted, c.in-Text.ensures.kept);
+      counted = grind (arith, held.counted, c.in-Text.ensures.faults_kept);
     }
 
 pub returns-in-TooLong-clause-front : goal.returns-in-TooLong-clause-front

@@ -2,4 +2,4 @@ use Rattle.deadlines.proofs.Wholes.{keeps_turn, turn_sixth, turn_seventh, turn_e
 use Rattle.deadlines.proofs.laws.turn.Goals as goal
 
 pub returns : goal.returns
-returns c = record { keeps = keeps_turn; sixth = turn_sixth; seventh = turn_seventh; eighth = turn_eighth; thirteenth = turn_thirteenth; raised = turn_raised; owing = turn_owing }
+returns c = record { keeps = keeps_turn; refreshes_in_time = turn_sixth; refreshes_evenly = turn_seventh; scrubs_in_step = turn_eighth; answers_the_alert = turn_thirteenth; raised = turn_raised; owing = turn_owing }

@@ -9,7 +9,7 @@ pub returns-in-Mrw : goal.returns-in-Mrw
 returns-in-Mrw c = λ h clock log same accepted legal.
     let here = subst (λ (command : Command). IsLegal h clock command log) c.in-Mrw.is legal in
     let ok : c.apply-outcome.result ≡ Ok tt = c.apply-outcome.ensures.outcome ∙ accepted_write c.give_back.ensures.accepted h clock c.in-Mrw.write log accepted here in
-    let new : c.apply-outcome.new.self ≡ written c.args.registers.now c.in-Mrw.write = rw ok at c.apply-outcome.ensures.ok in
+    let new : c.apply-outcome.new.self ≡ written c.args.registers.now c.in-Mrw.write = rw ok at c.apply-outcome.ensures.is_written in
     new ∙ ap (λ (held : List (Option ℕ)). written held c.in-Mrw.write) same ∙ sym (told_write h clock c.in-Mrw.write log here)
 
 pub returns-in_default : goal.returns-in_default

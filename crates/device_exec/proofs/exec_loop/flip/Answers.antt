@@ -14,4 +14,4 @@ returns-in-Ok-clause-acts g c = λ h script stands.
     let after = g.K.Sink.written c.put_line.new.sink in
     subst (λ (r : Result (Option Rule) Stop). Acts r (acted four_devices h script (Flip c.args.line c.args.chip c.args.bit)) h c.flip.new.self before after) (sym c.go_on.ensures)
     (acts_flips c.put_line.result h script c.last_clock-clock.result c.args.line c.args.chip c.args.bit c.flip.new.self before after
-    (c.last_clock-clock.ensures h script.steps Ready stands) (c.in-Ok.ensures.stands h script.steps stands) c.put_line.ensures.whole c.put_line.ensures.cut)
+    (c.last_clock-clock.ensures h script.steps Ready stands) (c.in-Ok.ensures.stands h script.steps stands) c.put_line.ensures.whole c.put_line.ensures.writes_a_prefix)

@@ -26,7 +26,7 @@ returns-in-Awaits-clause-acts g c = λ h script new numbered came.
     subst (λ (r : Result (Option Rule) Stop). Acts r (acted four_devices h script (Issued c.args.clock c.args.command.now)) h new before after) (sym c.go_on.ensures)
     (acts_waits c.put_line.result h script c.args.clock c.args.command.now new before after (subst (λ (k : Checked). Commands k new h c.args.clock c.args.command.now script.steps) c.in-Awaits.is came)
     (subst (λ (t : List ℕ). OnOk c.put_line.result (Appends before after t)) text c.put_line.ensures.whole)
-    (subst (λ (t : List ℕ). IfErr c.put_line.result (λ stop. AppendsPrefix before after t)) text c.put_line.ensures.cut))
+    (subst (λ (t : List ℕ). IfErr c.put_line.result (λ stop. AppendsPrefix before after t)) text c.put_line.ensures.writes_a_prefix))
 
 pub returns-in-Done-clause-acts : goal.returns-in-Done-clause-acts
 returns-in-Done-clause-acts g c = λ h script new numbered came.
@@ -34,4 +34,4 @@ returns-in-Done-clause-acts g c = λ h script new numbered came.
     let after = g.K.Sink.written c.put_command.new.sink in
     subst (λ (r : Result (Option Rule) Stop). Acts r (acted four_devices h script (Issued c.args.clock c.args.command.now)) h new before after) (sym c.go_on-in-Done.ensures)
     (acts_done c.put_command.result h script c.args.number c.args.clock c.args.command.now c.in-Done.answer new before after numbered (subst (λ (k : Checked). Commands k new h c.args.clock c.args.command.now script.steps) c.in-Done.is came)
-    c.put_command.ensures.whole c.put_command.ensures.cut)
+    c.put_command.ensures.whole c.put_command.ensures.writes_a_prefix)

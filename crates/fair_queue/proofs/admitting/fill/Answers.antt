@@ -29,7 +29,7 @@ filling-preserved g c =
       queues = kept-push c.args.queues.now c.filling.queues c.in-Some.port c.take.result c.push.new.self i.queues c.push.ensures;
       steady = steady-push c.args.queues.now c.args.lines.now c.filling.queues c.look.new.self c.in-Some.port c.take.result c.push.new.self c.take.new.self
           (steady-look c.args.queues.now c.args.lines.now c.filling.queues c.filling.lines c.look.new.self i.steady c.in_ok-look.ensures.steady) c.in-Some.ensures.port c.in-Some.ensures.within i.queues.four c.push.ensures c.take.ensures.place;
-      kept = c.in_ok-look.ensures.kept ∙ i.kept;
+      kept = c.in_ok-look.ensures.faults_kept ∙ i.kept;
     }
 
 pub returns-then-not-has_room-clause-filled : goal.returns-then-not-has_room-clause-filled

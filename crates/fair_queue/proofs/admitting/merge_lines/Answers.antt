@@ -20,8 +20,8 @@ rounds-init g c =
       kept_written = refl;
     }
 
-pub returns-in_err-fill-clause-cut : goal.returns-in_err-fill-clause-cut
-returns-in_err-fill-clause-cut g c =
+pub returns-in_err-fill-clause-begins_to_merge : goal.returns-in_err-fill-clause-begins_to_merge
+returns-in_err-fill-clause-begins_to_merge g c =
     let i = c.rounds.invariant in
     if_err _ _ (cut-here c.args.cap c.rounds.count (unread c.args.lines.now (g.S.Source.left c.args.source.now)) (unread c.rounds.lines (g.S.Source.left c.rounds.source)) c.rounds.queues c.rounds.lines (g.K.Sink.written c.args.sink.now) (g.K.Sink.written c.rounds.sink) i.merged i.ended)
 
@@ -45,12 +45,12 @@ rounds-preserved g c =
           f s.four s.turn c.in-Some.ensures c.in_ok-count-in-Some.ensures.count c.in_ok-count-in-Some.ensures.whole;
       settled = settled-next c.rounds.count c.in_ok-count-in-Some.count c.fill.new.queues c.admit.new.self c.fill.new.lines c.in-Some.rest s c.in-Some.ensures c.in_ok-count-in-Some.ensures.count;
       ended = e;
-      kept = c.in_ok-fill.ensures.kept ∙ i.kept;
-      kept_written = c.in_ok-count-in-Some.ensures.kept ∙ i.kept_written;
+      kept = c.in_ok-fill.ensures.faults_kept ∙ i.kept;
+      kept_written = c.in_ok-count-in-Some.ensures.faults_kept ∙ i.kept_written;
     }
 
-pub returns-in_err-count-in-Some-clause-cut : goal.returns-in_err-count-in-Some-clause-cut
-returns-in_err-count-in-Some-clause-cut g c =
+pub returns-in_err-count-in-Some-clause-begins_to_merge : goal.returns-in_err-count-in-Some-clause-begins_to_merge
+returns-in_err-count-in-Some-clause-begins_to_merge g c =
     let i = c.rounds.invariant in
     let start = unread c.args.lines.now (g.S.Source.left c.args.source.now) in
     let now = unread c.rounds.lines (g.S.Source.left c.rounds.source) in
@@ -59,7 +59,7 @@ returns-in_err-count-in-Some-clause-cut g c =
     let f = merging-filled c.args.cap c.rounds.count start now later c.rounds.queues c.fill.new.queues c.rounds.lines c.fill.new.lines (g.K.Sink.written c.args.sink.now) (g.K.Sink.written c.rounds.sink) i.merged i.settled.four c.in_ok-fill.ensures.filled in
     let e = ends-filled c.args.cap c.rounds.count start now later c.rounds.queues c.rounds.lines c.fill.new.lines (g.K.Sink.written c.args.sink.now) (g.K.Sink.written c.rounds.sink) i.merged i.ended c.in_ok-fill.ensures.ended in
     if_err _ _ (cut-next c.args.cap c.rounds.count start later c.fill.new.queues c.admit.new.self c.fill.new.lines (g.K.Sink.written c.args.sink.now) (g.K.Sink.written c.rounds.sink) (g.K.Sink.written c.put_rest.new.sink) c.in-Some.rest
-    f e s.four s.turn c.in-Some.ensures c.in_err-count-in-Some.ensures.cut)
+    f e s.four s.turn c.in-Some.ensures c.in_err-count-in-Some.ensures.writes_a_prefix)
 
 pub returns-in-None-clause-whole : goal.returns-in-None-clause-whole
 returns-in-None-clause-whole g c =
@@ -85,8 +85,8 @@ returns-in-None-clause-used_up g c =
     let e = ends-filled c.args.cap c.rounds.count start now later c.rounds.queues c.rounds.lines c.fill.new.lines (g.K.Sink.written c.args.sink.now) (g.K.Sink.written c.rounds.sink) i.merged i.ended c.in_ok-fill.ensures.ended in
     on_ok c.put_ending.result _ (reads-end c.args.cap c.rounds.count start (g.S.Source.left c.fill.new.source) c.fill.new.queues c.admit.new.self c.fill.new.lines (g.K.Sink.written c.args.sink.now) (g.K.Sink.written c.rounds.sink) f e s.turn c.in_ok-fill.ensures.stopped c.in-None.ensures)
 
-pub returns-in-None-clause-cut : goal.returns-in-None-clause-cut
-returns-in-None-clause-cut g c =
+pub returns-in-None-clause-begins_to_merge : goal.returns-in-None-clause-begins_to_merge
+returns-in-None-clause-begins_to_merge g c =
     let i = c.rounds.invariant in
     let start = unread c.args.lines.now (g.S.Source.left c.args.source.now) in
     let now = unread c.rounds.lines (g.S.Source.left c.rounds.source) in
@@ -96,4 +96,4 @@ returns-in-None-clause-cut g c =
     let e = ends-filled c.args.cap c.rounds.count start now later c.rounds.queues c.rounds.lines c.fill.new.lines (g.K.Sink.written c.args.sink.now) (g.K.Sink.written c.rounds.sink) i.merged i.ended c.in_ok-fill.ensures.ended in
     if_err-to c.put_ending.result _ _
     (cut-end c.args.cap c.rounds.count start later c.fill.new.queues c.admit.new.self c.fill.new.lines (g.K.Sink.written c.args.sink.now) (g.K.Sink.written c.rounds.sink) (g.K.Sink.written c.put_ending.new.sink) f e s.turn c.in_ok-fill.ensures.stopped c.in-None.ensures)
-    (subst (λ b. IfErr c.put_ending.result (λ stop. AppendsPrefix (g.K.Sink.written c.rounds.sink) (g.K.Sink.written c.put_ending.new.sink) (ending b))) c.is_bad.ensures c.put_ending.ensures.cut)
+    (subst (λ b. IfErr c.put_ending.result (λ stop. AppendsPrefix (g.K.Sink.written c.rounds.sink) (g.K.Sink.written c.put_ending.new.sink) (ending b))) c.is_bad.ensures c.put_ending.ensures.writes_a_prefix)

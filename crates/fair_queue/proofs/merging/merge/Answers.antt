@@ -16,7 +16,7 @@ returns-in-Ok-Accepted-clause-answer g c =
 
 pub returns-in-Ok-Accepted-clause-reads_kept : goal.returns-in-Ok-Accepted-clause-reads_kept
 returns-in-Ok-Accepted-clause-reads_kept g c = λ other.
-    c.merge_behind.ensures.reads_kept other ∙ c.in-Ok-Accepted.ensures.kept (accepted-read c.in-Ok-Accepted.field-0 c.in-Ok-Accepted._header c.in-Ok-Accepted.text c.in-Ok-Accepted.field-0-is)
+    c.merge_behind.ensures.reads_kept other ∙ c.in-Ok-Accepted.ensures.faults_kept (accepted-read c.in-Ok-Accepted.field-0 c.in-Ok-Accepted._header c.in-Ok-Accepted.text c.in-Ok-Accepted.field-0-is)
 
 pub returns-in-Ok-Refused-clause-answer : goal.returns-in-Ok-Refused-clause-answer
 returns-in-Ok-Refused-clause-answer g c =
@@ -26,7 +26,7 @@ returns-in-Ok-Refused-clause-answer g c =
     c.refuse.ensures.written
 
 pub returns-in-Ok-Refused-clause-reads_kept : goal.returns-in-Ok-Refused-clause-reads_kept
-returns-in-Ok-Refused-clause-reads_kept g c = λ other. c.in-Ok-Refused.ensures.kept (refused-read c.in-Ok-Refused.field-0 c.in-Ok-Refused.reason c.in-Ok-Refused.field-0-is)
+returns-in-Ok-Refused-clause-reads_kept g c = λ other. c.in-Ok-Refused.ensures.faults_kept (refused-read c.in-Ok-Refused.field-0 c.in-Ok-Refused.reason c.in-Ok-Refused.field-0-is)
 
 pub returns-in-Ok-Failed-clause-answer : goal.returns-in-Ok-Failed-clause-answer
 returns-in-Ok-Failed-clause-answer g c = nothing-answer c.args.cap (g.S.Source.left c.args.source.now) (g.K.Sink.written c.args.sink.now)

@@ -8,10 +8,10 @@ use Rattle.ddr_text.proofs.Prefixes.{if_err}
 use Rattle.fair_queue.proofs.Pieces.{cut-rest}
 use Rattle.fair_queue.proofs.writing.put_rest.Goals as goal
 
-pub returns-in_err-put_with_feed-clause-cut : goal.returns-in_err-put_with_feed-clause-cut
-returns-in_err-put_with_feed-clause-cut g c =
+pub returns-in_err-put_with_feed-clause-writes_a_prefix : goal.returns-in_err-put_with_feed-clause-writes_a_prefix
+returns-in_err-put_with_feed-clause-writes_a_prefix g c =
     let due : c.is_barred.result ≡ (is_request c.args.rest.now && is_due c.args.cap c.args.count) =
     c.is_barred.ensures ∙ ap (λ b. b && is_due c.args.cap c.args.count) (c.is_request-asks.ensures ∙ ap is_request c.bytes.ensures.bytes) in
     if_err _ _ (cut-rest (g.K.Sink.written c.args.sink.now) (g.K.Sink.written c.put_barrier.new.sink) (g.K.Sink.written c.put_with_feed.new.sink) (barriers c.args.cap c.args.count c.args.rest.now) c.args.rest.now c.bytes-2.result.now c.bytes-2.ensures.bytes
     (subst (λ b. Appends (g.K.Sink.written c.args.sink.now) (g.K.Sink.written c.put_barrier.new.sink) (flat_map with_feed (if b then barrier ∷ [] else []))) due c.in_ok-put_barrier.ensures.whole)
-    c.in_err-put_with_feed.ensures.cut)
+    c.in_err-put_with_feed.ensures.writes_a_prefix)

@@ -2,7 +2,6 @@ use Rattle.std.proofs.Common.{◌≡◌, ◌∙◌, ℕ, ◌++◌, ◌∷◌, []
 use Rattle.command_words.specs.Geometry.{Shape}
 use Rattle.ddr_io.specs.Faults.{Rose}
 use Rattle.ddr_io.specs.Line.{next_bytes}
-use Rattle.ddr_text.specs.ReportReading.{Place}
 use Rattle.ddr_text.specs.declared.report_reader.Next.TheVariants.{Line, Failed}
 use Rattle.ddr_text.specs.declared.report_reader.Stage.TheVariants.{Body}
 use Rattle.log_auditor.proofs.Readings.{fewer_left, first_reads, may_judge, next_reads, reads_found, reads_all, reads_refused}
@@ -40,7 +39,7 @@ loop-line-preserved g c =
             c.loop-line.finding c.judge-finding.result c.loop-line.auditor c.judge-finding.new.auditor c.loop-line.lines c.next.new.self r.0 c.in-Line.line c.number-number.result r.1
             (c.next.ensures.line c.in-Line.line c.in-Line.is) c.in-Line.ensures.step c.number-number.ensures.number c.judge-finding.ensures,
       );
-      kept = c.next.ensures.kept (λ fails. let none : Line c.in-Line.line ≡ Failed = sym c.in-Line.is ∙ fails in cc) ∙ c.loop-line.invariant.kept;
+      kept = c.next.ensures.faults_kept (λ fails. let none : Line c.in-Line.line ≡ Failed = sym c.in-Line.is ∙ fails in cc) ∙ c.loop-line.invariant.kept;
     }
 
 pub returns-in-End-clause-found : goal.returns-in-End-clause-found

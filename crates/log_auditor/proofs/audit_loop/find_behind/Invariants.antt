@@ -1,7 +1,7 @@
-use Rattle.std.proofs.Common.{◌≡◌, ℕ, ◌+◌, ◌-◌, List}
+use Rattle.std.proofs.Common.{◌≡◌, ◌+◌, ◌-◌, List}
 use Rattle.ddr_io.specs.Line.{next_bytes}
 use Rattle.ddr_text.specs.declared.lines.ReportLine.{ReportLine}
-use Rattle.log_auditor.specs.Progress.{Reads}
+use Rattle.log_auditor.specs.AuditSoFar.{Reads}
 use Rattle.ddr_text.specs.ReportReading.{most_lines}
 use Rattle.log_auditor.proofs.audit_loop.find_behind.Given as goal
 

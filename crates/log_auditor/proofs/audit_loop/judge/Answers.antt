@@ -1,4 +1,4 @@
-use Rattle.std.proofs.Common.{◌≡◌, ◌∙◌, refl, sym}
+use Rattle.std.proofs.Common.{◌∙◌, refl, sym}
 use Rattle.log_auditor.specs.Findings.{log_of}
 use Rattle.log_auditor.proofs.Auditions.{audited_broken, audited_other, audited_place, only_fine, place_open}
 use Rattle.log_auditor.proofs.Taking.{goes_on, line_inside}

@@ -18,10 +18,10 @@ writes-cut OutOfMemory faults later before after piece cause cut = cut
 pub returns-in-Err-clause-bytes : goal.returns-in-Err-clause-bytes
 returns-in-Err-clause-bytes g c =
     subst (λ (s : Status). Writes s (g.K.Sink.written c.args.sink.now) (g.K.Sink.written c.put_job.new.sink) (made c.args.seed c.args.requests)) (sym c.status.ensures)
-    (writes-cut c.in-Err.stop (g.K.Sink.faults c.args.sink.now) (g.K.Sink.faults c.put_job.new.sink) (g.K.Sink.written c.args.sink.now) (g.K.Sink.written c.put_job.new.sink) (made c.args.seed c.args.requests) c.in-Err.ensures.cause c.in-Err.ensures.cut)
+    (writes-cut c.in-Err.stop (g.K.Sink.faults c.args.sink.now) (g.K.Sink.faults c.put_job.new.sink) (g.K.Sink.written c.args.sink.now) (g.K.Sink.written c.put_job.new.sink) (made c.args.seed c.args.requests) c.in-Err.ensures.cause c.in-Err.ensures.writes_a_prefix)
 
 pub returns-in-Err-clause-fault : goal.returns-in-Err-clause-fault
 returns-in-Err-clause-fault g c = λ is. stop-rose c.in-Err.stop (g.K.Sink.faults c.args.sink.now) (g.K.Sink.faults c.put_job.new.sink) c.in-Err.ensures.cause (sym c.status.ensures ∙ is)
 
-pub returns-in-Err-clause-kept : goal.returns-in-Err-clause-kept
-returns-in-Err-clause-kept g c = λ other. stop-kept c.in-Err.stop (g.K.Sink.faults c.args.sink.now) (g.K.Sink.faults c.put_job.new.sink) c.in-Err.ensures.cause (λ is. other (c.status.ensures ∙ is))
+pub returns-in-Err-clause-faults_kept : goal.returns-in-Err-clause-faults_kept
+returns-in-Err-clause-faults_kept g c = λ other. stop-kept c.in-Err.stop (g.K.Sink.faults c.args.sink.now) (g.K.Sink.faults c.put_job.new.sink) c.in-Err.ensures.cause (λ is. other (c.status.ensures ∙ is))

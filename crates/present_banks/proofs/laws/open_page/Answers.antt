@@ -3,4 +3,4 @@ use Rattle.present_banks.proofs.Agreeing.{page_agrees, ready}
 use Rattle.present_banks.proofs.laws.open_page.Goals as goal
 
 pub returns : goal.returns
-returns c = record { kept = λ h log ok inside. page_agrees h log (ready h ok) (has_banks h log inside) }
+returns c = record { keeps_page = λ h log ok inside. page_agrees h log (ready h ok) (has_banks h log inside) }

@@ -7,5 +7,5 @@ returns-clause-start c = starts
 pub returns-clause-ahead : goal.returns-clause-ahead
 returns-clause-ahead c = looks
 
-pub returns-clause-later : goal.returns-clause-later
-returns-clause-later c = waits-on
+pub returns-clause-time_passes : goal.returns-clause-time_passes
+returns-clause-time_passes c = waits-on

@@ -5,8 +5,8 @@ use Rattle.reports.proofs.Underway.{none-waits}
 use Rattle.reports.proofs.Controlled.{flip-idle}
 use Rattle.reports.proofs.laws.carries_out_a_flip.Goals as goal
 
-pub returns-clause-kept : goal.returns-clause-kept
-returns-clause-kept c = λ h trace n now run line device bit u none. flips-line h trace n now run line device bit u (none-waits c.oldest_unserved.ensures.none h trace run u.sound none)
+pub returns-clause-stays_underway : goal.returns-clause-stays_underway
+returns-clause-stays_underway c = λ h trace n now run line device bit u none. flips-line h trace n now run line device bit u (none-waits c.oldest_unserved.ensures.none h trace run u.sound none)
 
 pub returns-clause-offered : goal.returns-clause-offered
 returns-clause-offered c = λ trace line device bit. passes-offered trace (Flip line device bit) refl

@@ -5,8 +5,8 @@ use Rattle.reports.proofs.Underway.{none-waits}
 use Rattle.reports.proofs.Controlled.{idle-idle}
 use Rattle.reports.proofs.laws.carries_out_an_idle.Goals as goal
 
-pub returns-clause-kept : goal.returns-clause-kept
-returns-clause-kept c = λ h trace n now later run clocks u none le. idles-line h trace n now later run clocks u (none-waits c.oldest_unserved.ensures.none h trace run u.sound none) le
+pub returns-clause-stays_underway : goal.returns-clause-stays_underway
+returns-clause-stays_underway c = λ h trace n now later run clocks u none le. idles-line h trace n now later run clocks u (none-waits c.oldest_unserved.ensures.none h trace run u.sound none) le
 
 pub returns-clause-offered : goal.returns-clause-offered
 returns-clause-offered c = λ trace clocks. passes-offered trace (Idle clocks) refl

@@ -11,8 +11,8 @@ returns-clause-served c = served-rank
 pub returns-clause-rank : goal.returns-clause-rank
 returns-clause-rank c = rank-split
 
-pub returns-clause-longer : goal.returns-clause-longer
-returns-clause-longer c = steps-longer
+pub returns-clause-same_in_a_longer_trace : goal.returns-clause-same_in_a_longer_trace
+returns-clause-same_in_a_longer_trace c = steps-longer
 
 pub returns-clause-none : goal.returns-clause-none
 returns-clause-none c = none-waits c.oldest_unserved.ensures.none

@@ -2,8 +2,8 @@ use Rattle.reports.proofs.Lines.{takes, takes-offered, takes-held}
 use Rattle.reports.proofs.Controlled.{takes-idle, inside-more}
 use Rattle.reports.proofs.laws.takes_a_request.Goals as goal
 
-pub returns-clause-kept : goal.returns-clause-kept
-returns-clause-kept c = takes
+pub returns-clause-stays_underway : goal.returns-clause-stays_underway
+returns-clause-stays_underway c = takes
 
 pub returns-clause-offered : goal.returns-clause-offered
 returns-clause-offered c = takes-offered

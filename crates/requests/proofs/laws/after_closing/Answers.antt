@@ -2,4 +2,4 @@ use Rattle.requests.proofs.Kept.{after_closing_lem}
 use Rattle.requests.proofs.laws.after_closing.Goals as goal
 
 pub returns : goal.returns
-returns c = record { kept = after_closing_lem }
+returns c = record { requested = after_closing_lem }

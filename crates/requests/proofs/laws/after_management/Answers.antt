@@ -2,4 +2,4 @@ use Rattle.requests.proofs.Kept.{after_management_lem}
 use Rattle.requests.proofs.laws.after_management.Goals as goal
 
 pub returns : goal.returns
-returns c = record { kept = after_management_lem }
+returns c = record { requested = after_management_lem }

@@ -5,9 +5,9 @@ pub returns-clause-lines : goal.returns-clause-lines
 unfolding StandsFor
 returns-clause-lines c = λ h x offered idle log s. s.requested.in_order
 
-pub returns-clause-once : goal.returns-clause-once
+pub returns-clause-served_once : goal.returns-clause-served_once
 unfolding StandsFor
-returns-clause-once c = λ h x offered idle log s. s.requested.once
+returns-clause-served_once c = λ h x offered idle log s. s.requested.once
 
 pub returns-clause-known : goal.returns-clause-known
 unfolding StandsFor

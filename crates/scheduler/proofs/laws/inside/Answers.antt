@@ -21,10 +21,10 @@ unfolding StandsFor
 returns c = record {
   row = λ h x offered idle log b row s own.
       let k = at_of (in_bank b) x.queue.items own.request (subst (λ ws. oldest (in_bank b) ws ≡ Some own.request) (sym s.requested.waits) own.oldest_of) in
-      let i = c.queued.ensures.each h offered log x.queue.items (excused x.task x.finished x.queue.items) k.index own.request s.requested k.here in
+      let i = c.queued.ensures.is_queued h offered log x.queue.items (excused x.task x.finished x.queue.items) k.index own.request s.requested k.here in
       subst (λ n. n < h.settings.rows) own.row_is i.inside.row;
   bank = λ h x offered idle log test w s is.
       let k = at_of test x.queue.items w (subst (λ ws. oldest test ws ≡ Some w) (sym s.requested.waits) is) in
-      let i = c.queued.ensures.each h offered log x.queue.items (excused x.task x.finished x.queue.items) k.index w s.requested k.here in
+      let i = c.queued.ensures.is_queued h offered log x.queue.items (excused x.task x.finished x.queue.items) k.index w s.requested k.here in
       i.own;
 }

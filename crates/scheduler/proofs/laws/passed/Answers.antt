@@ -6,6 +6,6 @@ pub returns-clause-newest : goal.returns-clause-newest
 unfolding StandsFor from_of
 returns-clause-newest c = λ h x offered idle step log s. ltb-true step.issued.clock x.ledger.from s.last
 
-pub returns-clause-near : goal.returns-clause-near
+pub returns-clause-below_the_limit : goal.returns-clause-below_the_limit
 unfolding StandsFor from_of
-returns-clause-near c = λ h x offered idle log s. s.near
+returns-clause-below_the_limit c = λ h x offered idle log s. s.near

@@ -7,7 +7,7 @@ use Rattle.scheduler.proofs.laws.unraised.Goals as goal
 pub returns : goal.returns
 unfolding StandsFor
 returns c = record {
-  calm = λ h x offered idle log s few.
+  raises_no_alert = λ h x offered idle log s few.
       let a = c.activations.ensures.at_most h offered log x.queue.items (excused x.task x.finished x.queue.items) s.requested in
       never_raised h (places log) (omega (arith, a, few));
 }

@@ -1,4 +1,4 @@
-use Rattle.spare_device.proofs.Near.{Repairs}
+use Rattle.device_core.proofs.NearWords.{Repairs}
 use Rattle.spare_device.proofs.Dead.{whole-reading}
 use Rattle.spare_device.proofs.laws.reads_without_one.Goals as goal
 

@@ -16,4 +16,4 @@ returns-in-Ok-clause-acts g c = λ h script stands.
     let after = g.K.Sink.written c.put_line.new.sink in
     subst (λ (r : Result (Option Rule) Stop). Acts c.args.dead r (acted (five_devices c.args.dead) h script (Flip c.args.line c.args.chip c.args.bit)) h c.turn.new.device before after) (sym c.go_on.ensures)
     (acts_flips c.args.dead c.put_line.result h script c.last_clock-clock.result c.args.line c.args.chip c.args.bit c.turn.new.device before after
-    (c.last_clock-clock.ensures h (stood_steps c.args.dead script.steps) Ready stands.stands ∙ ap last_clock (log-stood c.args.dead script.steps)) (c.in-Ok.ensures.stands h script.steps stands) c.put_line.ensures.whole c.put_line.ensures.cut)
+    (c.last_clock-clock.ensures h (stood_steps c.args.dead script.steps) Ready stands.stands ∙ ap last_clock (log-stood c.args.dead script.steps)) (c.in-Ok.ensures.stands h script.steps stands) c.put_line.ensures.whole c.put_line.ensures.writes_a_prefix)

@@ -1,6 +1,7 @@
 use Rattle.std.proofs.Common.{sym, subst}
 use Rattle.ddr_io.specs.Line.{next_bytes}
 use Rattle.ddr_io.specs.declared.status.Status.{Status}
+use Rattle.ddr_text.specs.Io.{io}
 use Rattle.ddr_text.specs.Outcome.{AnswersAs}
 use Rattle.spare_device.specs.Running.{IsOpened}
 use Rattle.spare_device.proofs.Openings.{opened_cut, opened_nothing, opened_runs}
@@ -16,9 +17,9 @@ returns-in-Ok-put_opening-clause-answer g c =
 
 pub returns-clause-answer : goal.returns-clause-answer
 returns-clause-answer g c =
-    subst (λ (t : Status). AnswersAs (IsOpened c.args.dead c.args.header.now c.args.text.now (next_bytes c.args.reader.held (g.S.Source.left c.args.source.now))) t (g.S.Source.left c.args.source.now) (g.S.Source.left c.args.source.now) (g.K.Sink.written c.args.sink.now) (g.K.Sink.written c.put_opening.new.sink)) (sym c.status.ensures)
+    subst (λ (t : Status). AnswersAs (IsOpened c.args.dead c.args.header.now c.args.text.now (next_bytes c.args.reader.held (g.S.Source.left c.args.source.now))) t (io (g.S.Source.left c.args.source.now) (g.S.Source.left c.args.source.now) (g.K.Sink.written c.args.sink.now) (g.K.Sink.written c.put_opening.new.sink))) (sym c.status.ensures)
     (opened_cut c.args.dead c.args.header.now c.args.text.now (next_bytes c.args.reader.held (g.S.Source.left c.args.source.now)) (g.S.Source.left c.args.source.now) (g.S.Source.left c.args.source.now) (g.K.Sink.written c.args.sink.now) (g.K.Sink.written c.put_opening.new.sink) c.in-Err-put_opening.stop (g.K.Sink.faults c.args.sink.now) (g.K.Sink.faults c.put_opening.new.sink)
-    c.in-Err-put_opening.ensures.cut c.in-Err-put_opening.ensures.cause)
+    c.in-Err-put_opening.ensures.writes_a_prefix c.in-Err-put_opening.ensures.cause)
 
 pub run_lines-requires-clause-stands : goal.run_lines-requires-clause-stands
 run_lines-requires-clause-stands g c = record { stands = c.in-Ok.ensures.stands; given = tt }

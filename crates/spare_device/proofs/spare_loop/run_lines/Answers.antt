@@ -3,6 +3,7 @@ use Rattle.command_words.specs.Geometry.{Shape}
 use Rattle.ddr_io.specs.Line.{next_bytes}
 use Rattle.ddr_io.specs.declared.status.Status.{Status}
 use Rattle.ddr_io.specs.declared.status.Status.TheVariants.{Ok as OkStatus, Broken}
+use Rattle.ddr_text.specs.Io.{io}
 use Rattle.ddr_text.specs.Outcome.{AnswersAs}
 use Rattle.ddr_text.specs.Spelling.{spelled}
 use Rattle.ddr_text.specs.declared.lines.ReportLine.TheVariants.{End as EndLine}
@@ -40,8 +41,8 @@ each-preserved g c =
     record {
       runs = runs_on c.args.dead c.args.header.now (next_bytes c.args.reader.held (g.S.Source.left c.args.source.now)) (next_bytes c.each.lines.reader.held (g.S.Source.left c.each.source)) (next_bytes c.next.new.self.reader.held (g.S.Source.left c.next.new.source)) (g.K.Sink.written c.args.sink.now) (g.K.Sink.written c.each.sink) (g.K.Sink.written c.act.new.sink) c.each.lines c.next.new.self c.each.device c.act.new.device c.in-Line.line r (c.next.ensures.line c.in-Line.line c.in-Line.is) c.in-Line.ensures.step
           (subst (λ (o : Option Rule). Acts c.args.dead (Ok o) (acted (five_devices c.args.dead) c.args.header.now r.script c.in-Line.line) c.args.header.now c.act.new.device (g.K.Sink.written c.each.sink) (g.K.Sink.written c.act.new.sink)) c.in-Ok-None.field-0-is (c.in-Ok-None.ensures.acts c.args.header.now r.script (may_act c.args.dead c.args.header.now (next_bytes c.args.reader.held (g.S.Source.left c.args.source.now)) (next_bytes c.each.lines.reader.held (g.S.Source.left c.each.source)) (g.K.Sink.written c.args.sink.now) (g.K.Sink.written c.each.sink) c.each.lines c.next.new.self c.each.device c.in-Line.line c.number-number.result r (c.next.ensures.line c.in-Line.line c.in-Line.is) c.number-number.ensures.number)));
-      counted = grind (arith, c.each.invariant.counted, c.in-Line.ensures.kept);
-      writes = c.in-Ok-None.ensures.kept ∙ c.each.invariant.writes;
+      counted = grind (arith, c.each.invariant.counted, c.in-Line.ensures.faults_kept);
+      writes = c.in-Ok-None.ensures.faults_kept ∙ c.each.invariant.writes;
     }
 
 pub returns-in-Ok-Some-clause-answer : goal.returns-in-Ok-Some-clause-answer
@@ -53,7 +54,7 @@ returns-in-Ok-Some-clause-answer g c =
 pub returns-in-Err-clause-answer : goal.returns-in-Err-clause-answer
 returns-in-Err-clause-answer g c =
     let r = c.each.invariant.runs in
-    subst (λ (t : Status). AnswersAs (IsRunBehind c.args.dead c.args.header.now (next_bytes c.args.reader.held (g.S.Source.left c.args.source.now))) t (g.S.Source.left c.args.source.now) (g.S.Source.left c.next.new.source) (g.K.Sink.written c.args.sink.now) (g.K.Sink.written c.act.new.sink)) (sym c.status.ensures)
+    subst (λ (t : Status). AnswersAs (IsRunBehind c.args.dead c.args.header.now (next_bytes c.args.reader.held (g.S.Source.left c.args.source.now))) t (io (g.S.Source.left c.args.source.now) (g.S.Source.left c.next.new.source) (g.K.Sink.written c.args.sink.now) (g.K.Sink.written c.act.new.sink))) (sym c.status.ensures)
     (runs_cut c.args.dead c.args.header.now (next_bytes c.args.reader.held (g.S.Source.left c.args.source.now)) (next_bytes c.each.lines.reader.held (g.S.Source.left c.each.source)) (next_bytes c.next.new.self.reader.held (g.S.Source.left c.next.new.source)) (g.S.Source.left c.args.source.now) (g.S.Source.left c.next.new.source) (g.K.Sink.written c.args.sink.now) (g.K.Sink.written c.each.sink) (g.K.Sink.written c.act.new.sink) c.each.lines c.next.new.self c.each.device c.act.new.device c.in-Line.line c.in-Err.stop (g.K.Sink.faults c.each.sink) (g.K.Sink.faults c.act.new.sink) r c.in-Line.ensures.step
     (c.in-Err.ensures.acts c.args.header.now r.script (may_act c.args.dead c.args.header.now (next_bytes c.args.reader.held (g.S.Source.left c.args.source.now)) (next_bytes c.each.lines.reader.held (g.S.Source.left c.each.source)) (g.K.Sink.written c.args.sink.now) (g.K.Sink.written c.each.sink) c.each.lines c.next.new.self c.each.device c.in-Line.line c.number-number.result r (c.next.ensures.line c.in-Line.line c.in-Line.is) c.number-number.ensures.number)) c.in-Err.ensures.cause)
 
@@ -106,7 +107,7 @@ pub returns-in-Ok-Some-clause-read : goal.returns-in-Ok-Some-clause-read
 returns-in-Ok-Some-clause-read g c = λ is. absurd (closes_no_read Broken c.tell.result _ (g.K.Sink.written c.act.new.sink) (g.K.Sink.written c.tell.new.sink) c.tell.ensures.written is)
 
 pub returns-in-Ok-Some-clause-write : goal.returns-in-Ok-Some-clause-write
-returns-in-Ok-Some-clause-write g c = λ is. rose-later (g.K.Sink.faults c.args.sink.now) (g.K.Sink.faults c.act.new.sink) (g.K.Sink.faults c.tell.new.sink) (c.in-Ok-Some.ensures.kept ∙ c.each.invariant.writes) (c.tell.ensures.write is)
+returns-in-Ok-Some-clause-write g c = λ is. rose-later (g.K.Sink.faults c.args.sink.now) (g.K.Sink.faults c.act.new.sink) (g.K.Sink.faults c.tell.new.sink) (c.in-Ok-Some.ensures.faults_kept ∙ c.each.invariant.writes) (c.tell.ensures.write is)
 
 pub returns-in-Ok-Some-clause-writes_kept : goal.returns-in-Ok-Some-clause-writes_kept
-returns-in-Ok-Some-clause-writes_kept g c = λ other. c.tell.ensures.writes_kept other ∙ (c.in-Ok-Some.ensures.kept ∙ c.each.invariant.writes)
+returns-in-Ok-Some-clause-writes_kept g c = λ other. c.tell.ensures.writes_kept other ∙ (c.in-Ok-Some.ensures.faults_kept ∙ c.each.invariant.writes)

@@ -3,6 +3,7 @@ use Rattle.ddr_io.specs.declared.status.Status.{Status}
 use Rattle.trace_replay.specs.Replay.{Answers}
 use Rattle.trace_replay.proofs.LoopAnswers.{finished}
 use Rattle.trace_replay.proofs.LoopEnd.{stop-reads-kept, stop-writes-kept}
+use Rattle.ddr_text.specs.Io.{io}
 use Rattle.trace_replay.proofs.replay_loop.replay.Goals as goal
 
 pub returns-in-Finished-clause-answer : goal.returns-in-Finished-clause-answer
@@ -12,19 +13,19 @@ returns-in-Finished-clause-answer g c =
 
 pub returns-in-Stopped-clause-answer : goal.returns-in-Stopped-clause-answer
 returns-in-Stopped-clause-answer g c =
-    subst (λ (s : Status). Answers s (g.S.Source.left c.args.source.now) (g.S.Source.left c.run_job.new.source) (g.K.Sink.written c.args.sink.now) (g.K.Sink.written c.run_job.new.sink)) (sym c.status.ensures) c.in-Stopped.ensures.answer
+    subst (λ (s : Status). Answers s (io (g.S.Source.left c.args.source.now) (g.S.Source.left c.run_job.new.source) (g.K.Sink.written c.args.sink.now) (g.K.Sink.written c.run_job.new.sink))) (sym c.status.ensures) c.in-Stopped.ensures.answer
 
 pub returns-in-Finished-clause-reads_kept : goal.returns-in-Finished-clause-reads_kept
-returns-in-Finished-clause-reads_kept g c = λ other. c.in-Finished.ensures.kept.0
+returns-in-Finished-clause-reads_kept g c = λ other. c.in-Finished.ensures.faults_kept.0
 
 pub returns-in-Finished-clause-writes_kept : goal.returns-in-Finished-clause-writes_kept
-returns-in-Finished-clause-writes_kept g c = λ other. c.end_report.ensures.writes_kept other ∙ c.in-Finished.ensures.kept.1
+returns-in-Finished-clause-writes_kept g c = λ other. c.end_report.ensures.writes_kept other ∙ c.in-Finished.ensures.faults_kept.1
 
 pub returns-in-Refused-clause-reads_kept : goal.returns-in-Refused-clause-reads_kept
-returns-in-Refused-clause-reads_kept g c = λ other. c.in-Refused.ensures.kept.0
+returns-in-Refused-clause-reads_kept g c = λ other. c.in-Refused.ensures.faults_kept.0
 
 pub returns-in-Refused-clause-writes_kept : goal.returns-in-Refused-clause-writes_kept
-returns-in-Refused-clause-writes_kept g c = λ other. c.in-Refused.ensures.kept.1
+returns-in-Refused-clause-writes_kept g c = λ other. c.in-Refused.ensures.faults_kept.1
 
 pub returns-in-Stopped-clause-reads_kept : goal.returns-in-Stopped-clause-reads_kept
 returns-in-Stopped-clause-reads_kept g c = λ other.

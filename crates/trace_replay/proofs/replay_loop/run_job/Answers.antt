@@ -20,30 +20,30 @@ returns-in-Ok-Accepted-clause-complete g c = λ bytes h text trace is job.
 pub returns-in-Ok-Accepted-clause-cause : goal.returns-in-Ok-Accepted-clause-cause
 returns-in-Ok-Accepted-clause-cause g c =
     cause-behind (g.S.Source.faults c.args.source.now) (g.S.Source.faults c.open_job.new.source) (g.S.Source.faults c.run_trace.new.source) (g.K.Sink.faults c.args.sink.now) (g.K.Sink.faults c.run_trace.new.sink) c.run_trace.result
-    (c.in-Ok-Accepted.ensures.kept (accepted-read c.in-Ok-Accepted.field-0 c.in-Ok-Accepted.header c.in-Ok-Accepted.text c.in-Ok-Accepted.field-0-is)) c.run_trace.ensures.cause
+    (c.in-Ok-Accepted.ensures.faults_kept (accepted-read c.in-Ok-Accepted.field-0 c.in-Ok-Accepted.header c.in-Ok-Accepted.text c.in-Ok-Accepted.field-0-is)) c.run_trace.ensures.cause
 
 pub returns-in-Ok-Refused-clause-cause : goal.returns-in-Ok-Refused-clause-cause
 returns-in-Ok-Refused-clause-cause g c =
     cause-behind (g.S.Source.faults c.args.source.now) (g.S.Source.faults c.open_job.new.source) (g.S.Source.faults c.open_job.new.source) (g.K.Sink.faults c.args.sink.now) (g.K.Sink.faults c.refuse_opening.new.sink) c.refuse_opening.result
-    (c.in-Ok-Refused.ensures.kept (refused-read c.in-Ok-Refused.field-0 c.in-Ok-Refused.reason c.in-Ok-Refused.field-0-is)) (c.refuse_opening.ensures.cause (g.S.Source.faults c.open_job.new.source))
+    (c.in-Ok-Refused.ensures.faults_kept (refused-read c.in-Ok-Refused.field-0 c.in-Ok-Refused.reason c.in-Ok-Refused.field-0-is)) (c.refuse_opening.ensures.cause (g.S.Source.faults c.open_job.new.source))
 
 pub returns-in-Ok-Failed-clause-cause : goal.returns-in-Ok-Failed-clause-cause
 returns-in-Ok-Failed-clause-cause g c = (c.in-Ok-Failed.ensures.failed (failed-read c.in-Ok-Failed.field-0 c.in-Ok-Failed.field-0-is), refl)
 
 pub returns-in-Err-clause-cause : goal.returns-in-Err-clause-cause
-returns-in-Err-clause-cause g c = (c.open_job.ensures.kept (memory-read c.open_job.result _ c.in-Err.is), refl)
+returns-in-Err-clause-cause g c = (c.open_job.ensures.faults_kept (memory-read c.open_job.result _ c.in-Err.is), refl)
 
 pub returns-in-Ok-Failed-clause-answer : goal.returns-in-Ok-Failed-clause-answer
 returns-in-Ok-Failed-clause-answer g c =
     failed c.new-reader.result.held (g.S.Source.left c.args.source.now) (g.S.Source.left c.open_job.new.source) (g.K.Sink.written c.args.sink.now)
     (ap (λ (r : Reading). r.held) c.new-reader.ensures) (c.in-Ok-Failed.ensures.unopened (failed-read c.in-Ok-Failed.field-0 c.in-Ok-Failed.field-0-is))
 
-pub returns-in-Ok-Accepted-clause-kept : goal.returns-in-Ok-Accepted-clause-kept
-returns-in-Ok-Accepted-clause-kept g c =
+pub returns-in-Ok-Accepted-clause-faults_kept : goal.returns-in-Ok-Accepted-clause-faults_kept
+returns-in-Ok-Accepted-clause-faults_kept g c =
     kept-behind (g.S.Source.faults c.args.source.now) (g.S.Source.faults c.open_job.new.source) (g.S.Source.faults c.run_trace.new.source) (g.K.Sink.faults c.args.sink.now) (g.K.Sink.faults c.run_trace.new.sink) c.run_trace.result
-    (c.in-Ok-Accepted.ensures.kept (accepted-read c.in-Ok-Accepted.field-0 c.in-Ok-Accepted.header c.in-Ok-Accepted.text c.in-Ok-Accepted.field-0-is)) c.run_trace.ensures.kept
+    (c.in-Ok-Accepted.ensures.faults_kept (accepted-read c.in-Ok-Accepted.field-0 c.in-Ok-Accepted.header c.in-Ok-Accepted.text c.in-Ok-Accepted.field-0-is)) c.run_trace.ensures.faults_kept
 
-pub returns-in-Ok-Refused-clause-kept : goal.returns-in-Ok-Refused-clause-kept
-returns-in-Ok-Refused-clause-kept g c =
+pub returns-in-Ok-Refused-clause-faults_kept : goal.returns-in-Ok-Refused-clause-faults_kept
+returns-in-Ok-Refused-clause-faults_kept g c =
     kept-behind (g.S.Source.faults c.args.source.now) (g.S.Source.faults c.open_job.new.source) (g.S.Source.faults c.open_job.new.source) (g.K.Sink.faults c.args.sink.now) (g.K.Sink.faults c.refuse_opening.new.sink) c.refuse_opening.result
-    (c.in-Ok-Refused.ensures.kept (refused-read c.in-Ok-Refused.field-0 c.in-Ok-Refused.reason c.in-Ok-Refused.field-0-is)) (c.refuse_opening.ensures.kept (g.S.Source.faults c.open_job.new.source))
+    (c.in-Ok-Refused.ensures.faults_kept (refused-read c.in-Ok-Refused.field-0 c.in-Ok-Refused.reason c.in-Ok-Refused.field-0-is)) (c.refuse_opening.ensures.faults_kept (g.S.Source.faults c.open_job.new.source))

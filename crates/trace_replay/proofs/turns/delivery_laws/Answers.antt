@@ -4,7 +4,7 @@ pub returns : goal.returns
 returns c = record {
   agrees = c.agrees.ensures.controller;
   places_limit = c.limits.ensures.places;
-  kept = c.issues_a_command.ensures.kept;
+  kept = c.issues_a_command.ensures.stays_underway;
   steps = c.issues_a_command.ensures.steps;
   log = c.gives_to_a_controller.ensures.log;
   given = c.gives_to_a_device.ensures.given;

@@ -33,7 +33,7 @@ returns-in_default g c =
     let last = ap (λ (r : Reading). r.last) c.self.view_is in
     record {
       bytes = Fills-unread _ _ _ _ c.read-got.result c.read-got.new.buf c.in_default.not-Bytes refl last (kept ∙ room.ensures.moved ∙ held) c.read-got.ensures.bytes;
-      later = c.read-got.ensures.later;
+      faults_never_fall = c.read-got.ensures.faults_never_fall;
       failed = c.read-got.ensures.failed;
-      kept = c.read-got.ensures.kept;
+      faults_kept = c.read-got.ensures.faults_kept;
     }

@@ -16,7 +16,7 @@ returns-clause-stands c =
     let inside = subst (λ (d : Held). IsInside c.args.place (cells_shape d.store.cells)) (sym c.self.view_is) c.requires.place in
     rw (← c.self.view_is)
     (flipped c.flip.result c.self.inside.registers c.self.inside.activations c.self.inside.store c.flip.new.self c.args.place c.args.device c.args.bit
-    c.flip.ensures.ok inside c.requires.device c.requires.bit)
+    c.flip.ensures.stands inside c.requires.device c.requires.bit)
 
 pub invariant_of-self : goal.invariant_of-self
 unfolding geometry_of
@@ -24,5 +24,5 @@ invariant_of-self c =
     let inside = subst (λ (d : Held). IsInside c.args.place (cells_shape d.store.cells)) (sym c.self.view_is) c.requires.place in
     flip_some c.flip.result c.unchanged_stands.ensures c.self.inside.registers c.self.inside.activations c.self.inside.store c.flip.new.self c.args.place c.args.device c.args.bit
     (flipped c.flip.result c.self.inside.registers c.self.inside.activations c.self.inside.store c.flip.new.self c.args.place c.args.device c.args.bit
-    c.flip.ensures.ok inside c.requires.device c.requires.bit)
-    c.flip.ensures.err c.self.invariant
+    c.flip.ensures.stands inside c.requires.device c.requires.bit)
+    c.flip.ensures.unchanged c.self.invariant

@@ -68,7 +68,7 @@ returns-clause-alert c = λ h steps command s may.
 
 pub returns-in_err-line-clause-geometry : goal.returns-in_err-line-clause-geometry
 unfolding geometry_of
-returns-in_err-line-clause-geometry c = rw (← c.self.view_is) c.in_err-line.ensures.err.cells.shape
+returns-in_err-line-clause-geometry c = rw (← c.self.view_is) c.in_err-line.ensures.unchanged.cells.shape
 
 pub returns-clause-geometry : goal.returns-clause-geometry
 unfolding geometry_of StandsFor StoreFor
@@ -80,7 +80,7 @@ returns-clause-geometry c =
     after.store.shape ∙ sym p.3.store.shape))
 
 pub invariant_of-self : goal.invariant_of-self
-invariant_of-self c = stays_some c.unchanged_stands.ensures c.self.inside.registers c.self.inside.activations c.self.inside.store c.access.new.store c.in_err-line.ensures.err c.self.invariant
+invariant_of-self c = stays_some c.unchanged_stands.ensures c.self.inside.registers c.self.inside.activations c.self.inside.store c.access.new.store c.in_err-line.ensures.unchanged c.self.invariant
 
 pub invariant_of-self-2 : goal.invariant_of-self-2
 invariant_of-self-2 c =

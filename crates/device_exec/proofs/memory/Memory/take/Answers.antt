@@ -15,6 +15,7 @@ issue-requires c =
 
 pub returns-clause-stands : goal.returns-clause-stands
 returns-clause-stands c = λ h steps b j.
-    let new : Memory = record { device = c.give.new.device; banks = c.issue.new.self; geometry = c.args.self.now.geometry } in
-    took c.args.self.now new h c.args.clock c.args.command (lent c.args.bytes) steps b (c.in_ok-read.ensures.stands h steps b.device j)
+    let new : Memory = record { device = c.give.new.device; banks = c.issue.new.self; geometry = c.args.self.now.geometry; raised = c.in_ok-reply.reply.alert } in
+    took c.args.self.now new h c.args.clock c.args.command (lent c.args.bytes) steps b (c.in_ok-reply.ensures.stands h steps b.device j)
     (c.issue.ensures c.args.clock (log_of steps) b.banks (fits h c.args.clock c.args.command (log_of steps) (rules_kept h c.args.clock c.args.command (lent c.args.bytes) steps j))) refl
+    (c.in_ok-reply.ensures.alert h steps b.device j)

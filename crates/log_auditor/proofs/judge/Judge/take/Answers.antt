@@ -1,5 +1,5 @@
 use Rattle.std.proofs.Common.{◌∙◌, ◌∷◌, sym, ap, subst}
-use Rattle.log_auditor.specs.Auditing.{Keeps, Kept, StandsFor, told_state}
+use Rattle.log_auditor.specs.Auditing.{Keeps, Kept, StandsFor, is_end, told_state}
 use Rattle.log_auditor.specs.declared.judge.Judge.{Judge}
 use Rattle.log_auditor.proofs.Taking.{fine_log, is_other, kept_end, kept_issued, kept_other, taken_end, taken_issued, taken_other}
 use Rattle.log_auditor.proofs.judge.Judge.take.Goals as goal
@@ -12,14 +12,14 @@ returns-clause-kept c =
     let sound = c.requires.sound in
     let going = c.requires.going_on in
     elim c.match-line.branch [
-      | in-Issued w ↦ subst (Kept line old) (sym w.self-is) (kept_issued line w.in-Issued.clock w.in-Issued.command old w.take_command.new.self sound going
+      | in-Issued w ↦ subst (Kept line old) (sym w.self-is) (kept_issued line w.in-Issued.clock w.in-Issued.command old w.take_command.new.self w.in-Issued.is sound going
           w.take_command.ensures.timing w.take_command.ensures.geometry w.take_command.ensures.stays w.take_command.ensures.going_on w.take_command.ensures.keeps)
       | in-End w ↦ subst (Kept line old) (sym w.self-is) (kept_end line w.in-End.clock old w.take_end.new.self w.in-End.is sound
           w.take_end.ensures.timing w.take_end.ensures.geometry w.take_end.ensures.stays w.take_end.ensures.shut)
-      | in-Value w ↦ subst (Kept line old) (sym w.self-is) (kept_other line old sound going)
-      | in-Flip w ↦ subst (Kept line old) (sym w.self-is) (kept_other line old sound going)
-      | in-Stat w ↦ subst (Kept line old) (sym w.self-is) (kept_other line old sound going)
-      | in-Refused w ↦ subst (Kept line old) (sym w.self-is) (kept_other line old sound going)
+      | in-Value w ↦ subst (Kept line old) (sym w.self-is) (kept_other line old (ap is_end w.in-Value.is) sound going)
+      | in-Flip w ↦ subst (Kept line old) (sym w.self-is) (kept_other line old (ap is_end w.in-Flip.is) sound going)
+      | in-Stat w ↦ subst (Kept line old) (sym w.self-is) (kept_other line old (ap is_end w.in-Stat.is) sound going)
+      | in-Refused w ↦ subst (Kept line old) (sym w.self-is) (kept_other line old (ap is_end w.in-Refused.is) sound going)
     ]
 
 pub returns-clause-taken : goal.returns-clause-taken

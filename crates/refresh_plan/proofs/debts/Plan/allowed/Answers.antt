@@ -21,10 +21,10 @@ unfolding StandsFor
 returns-else-is_even c = elim c.if-is_on_time.branch [
   | then-is_on_time w ↦ (λ h log stands. not_allowed _ c.if-is_on_time.value c.if-is_even.false (λ allowed.
       let seven = rule_7_test c.args.self.now h log c.args.command.now c.refreshes_after-counts.result w.is_even.result stands c.refreshes_after-counts.ensures w.is_even.ensures in
-      let is = allowed.seventh in
+      let is = allowed.refreshes_evenly in
       cc))
   | else-is_on_time w ↦ (λ h log stands. not_allowed _ c.if-is_on_time.value c.if-is_even.false (λ allowed.
       let six = rule_6_test c.args.self.now h log c.args.clock c.args.command.now c.refreshes_after-counts.result c.is_on_time.result stands c.refreshes_after-counts.ensures c.is_on_time.ensures in
-      let is = allowed.sixth in
+      let is = allowed.refreshes_in_time in
       cc))
 ]

@@ -1,22 +1,24 @@
-use Rattle.std.proofs.Common.{◌≡◌, ◌∙◌, ◌+◌, ℕ, ap, below_more, slice_index_or}
-use Rattle.row_order.specs.Nodes.{IsNode, next_in, prev_in, level_in}
-use Rattle.row_order.specs.Runs.{first_next, first_prev}
-use Rattle.row_order.specs.declared.pointers.Node.{Node as NodeValue}
+use Rattle.std.proofs.Common.{◌≡◌, ℕ, ◌+◌, ap, subst, arith}
+use Rattle.row_order.specs.Nodes.{store_of, AreLinked}
+use Rattle.row_order.specs.declared.nodes.Node.{Node}
+use Rattle.row_order.proofs.StoreLemmas.{linked_at_start}
 use Rattle.row_order.proofs.links.Links.new.Goals as goal
 
-pub loop-row-preserved : goal.loop-row-preserved
-loop-row-preserved c =
-    let i = c.loop-row.invariant in
-    let laid = c.lay.ensures in
-    let base = c.as_mut_ptr-base.result in
-    let xs = c.lay.new.nodes.items in
-    let rows = c.args.rows in
-    let row = c.loop-row.row in
+pub invariant_of-result : goal.invariant_of-result
+invariant_of-result c =
+    let made = c.in_ok-nodes.ensures in
+    let all : c.args.rows + c.args.levels ≡ c.in_ok-nodes.nodes.rows + c.in_ok-nodes.nodes.levels = (let a = made.sizes.0 in let b = made.sizes.1 in omega (arith, a, b)) in
     record {
-      long = laid.same.1 ∙ i.long;
-      lies = laid.same.0 ∙ i.lies;
-      linked = λ k d low. below_more (λ (j : ℕ). IsNode base (rows + c.args.levels) j (slice_index_or xs j d)) row (λ j h. rw (laid.others j d h) (i.linked j d h)) (laid.linked d) k low;
-      next = λ k d low. below_more (λ (j : ℕ). next_in base xs j d ≡ first_next rows j) row (λ j h. rw (laid.others j d h) (i.next j d h)) (laid.next d ∙ c.first_after-after.ensures.value) k low;
-      prev = λ k d low. below_more (λ (j : ℕ). prev_in base xs j d ≡ first_prev rows j) row (λ j h. rw (laid.others j d h) (i.prev j d h)) (laid.prev d ∙ c.first_before-before.ensures.value) k low;
-      level = λ k d low. below_more (λ (j : ℕ). level_in xs j d ≡ 0) row (λ j h. ap (λ (x : NodeValue). x.count) (laid.others j d h) ∙ i.level j d h) (laid.level d) k low;
+      whole = made.whole;
+      some_levels = rw made.sizes.1 c.requires.levels;
+      linked = subst (λ (n : ℕ). AreLinked (store_of c.in_ok-nodes.nodes) n) all (linked_at_start c.args.rows c.args.levels (store_of c.in_ok-nodes.nodes) c.requires.levels.0 made.nodes);
     }
+
+pub returns-clause-next : goal.returns-clause-next
+returns-clause-next c = λ k low. ap (λ (x : Node). x.after) (c.in_ok-nodes.ensures.nodes k low)
+
+pub returns-clause-prev : goal.returns-clause-prev
+returns-clause-prev c = λ k low. ap (λ (x : Node). x.before) (c.in_ok-nodes.ensures.nodes k low)
+
+pub returns-clause-level : goal.returns-clause-level
+returns-clause-level c = λ k low. ap (λ (x : Node). x.count) (c.in_ok-nodes.ensures.nodes k low)

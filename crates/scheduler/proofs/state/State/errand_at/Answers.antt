@@ -45,22 +45,22 @@ holds_not t P e f p = let g = f.1 p in cc
 
 pub returns-then-must_back_off-clause-some : goal.returns-then-must_back_off-clause-some
 returns-then-must_back_off-clause-some c = λ h offered idle log a looks le.
-    backs_off c.args.self.now h offered idle log c.args.soonest a (c.must_back_off.ensures.yes h offered idle log a c.if-must_back_off.true) le
+    backs_off c.args.self.now h offered idle log c.args.soonest a (c.must_back_off.ensures.backs_off h offered idle log a c.if-must_back_off.true) le
 
 pub returns-in-Some-clause-some : goal.returns-in-Some-clause-some
 returns-in-Some-clause-some c = λ h offered idle log a looks le.
-    goes_on c.args.self.now h offered idle log c.args.choice c.args.soonest c.in-Some.task a (c.must_back_off.ensures.no h offered idle log a c.if-must_back_off.false) c.in-Some.is le
+    goes_on c.args.self.now h offered idle log c.args.choice c.args.soonest c.in-Some.task a (c.must_back_off.ensures.stays_patient h offered idle log a c.if-must_back_off.false) c.in-Some.is le
 
 pub returns-then-ecs_due-clause-some : goal.returns-then-ecs_due-clause-some
 returns-then-ecs_due-clause-some c = λ h offered idle log a looks le.
-    scrubs c.args.self.now h offered idle log c.args.choice c.args.soonest a (c.must_back_off.ensures.no h offered idle log a c.if-must_back_off.false) (none_task _ c.in_default.not-Some)
+    scrubs c.args.self.now h offered idle log c.args.choice c.args.soonest a (c.must_back_off.ensures.stays_patient h offered idle log a c.if-must_back_off.false) (none_task _ c.in_default.not-Some)
     (holds c.ecs_due.result _ c.if-ecs_due.true (c.ecs_due.ensures h (places log) a.holds.ledger.stands)) le
 
 pub returns-in-Some-due-clause-some : goal.returns-in-Some-due-clause-some
 returns-in-Some-due-clause-some c = λ h offered idle log a looks le.
     let ledger = a.holds.ledger.stands in
     subst (λ (t : Task). IsErrand c.args.self.now h (places log) c.args.soonest (record { task = t; start = c.max-start.result })) (sym c.refresh_of-task.ensures)
-    (refreshes c.args.self.now h offered idle log c.args.choice c.args.soonest c.next_due.result c.max-start.result c.in-Some-due.due a (c.must_back_off.ensures.no h offered idle log a c.if-must_back_off.false) (none_task _ c.in_default.not-Some)
+    (refreshes c.args.self.now h offered idle log c.args.choice c.args.soonest c.next_due.result c.max-start.result c.in-Some-due.due a (c.must_back_off.ensures.stays_patient h offered idle log a c.if-must_back_off.false) (none_task _ c.in_default.not-Some)
     (holds_not c.ecs_due.result _ c.if-ecs_due.false (c.ecs_due.ensures h (places log) ledger)) looks
     (some_due c.due.result c.in-Some-due.due _ c.in-Some-due.is (c.due.ensures.none h (places log) ledger))
     (λ clock. c.next_due.ensures h (places log) clock ledger) c.max-start.ensures
@@ -69,7 +69,7 @@ returns-in-Some-due-clause-some c = λ h offered idle log a looks le.
 pub returns-in-Some-wanted-clause-some : goal.returns-in-Some-wanted-clause-some
 returns-in-Some-wanted-clause-some c = λ h offered idle log a looks le.
     let ledger = a.holds.ledger.stands in
-    manages c.args.self.now h offered idle log c.args.choice c.args.soonest c.in-Some-wanted.address a (c.must_back_off.ensures.no h offered idle log a c.if-must_back_off.false) (none_task _ c.in_default.not-Some)
+    manages c.args.self.now h offered idle log c.args.choice c.args.soonest c.in-Some-wanted.address a (c.must_back_off.ensures.stays_patient h offered idle log a c.if-must_back_off.false) (none_task _ c.in_default.not-Some)
     (holds_not c.ecs_due.result _ c.if-ecs_due.false (c.ecs_due.ensures h (places log) ledger))
     (due_none c.due.result _ (none_due _ c.in_default-due.not-Some) (c.due.ensures.none h (places log) ledger))
     (c.in-Some-wanted.ensures.wanted h (places log) ledger)
@@ -78,7 +78,7 @@ returns-in-Some-wanted-clause-some c = λ h offered idle log a looks le.
 pub returns-clause-none : goal.returns-clause-none
 returns-clause-none c = λ h offered idle log a.
     let ledger = a.holds.ledger.stands in
-    free_of c.args.self.now h (places log) c.args.choice c.args.soonest (c.must_back_off.ensures.no h offered idle log a c.if-must_back_off.false) (none_task _ c.in_default.not-Some)
+    free_of c.args.self.now h (places log) c.args.choice c.args.soonest (c.must_back_off.ensures.stays_patient h offered idle log a c.if-must_back_off.false) (none_task _ c.in_default.not-Some)
     (holds_not c.ecs_due.result _ c.if-ecs_due.false (c.ecs_due.ensures h (places log) ledger))
     (due_none c.due.result _ (none_due _ c.in_default-due.not-Some) (c.due.ensures.none h (places log) ledger))
     (wanted_none c.wanted.result _ (none_at _ c.in_default-wanted.not-Some) (c.wanted.ensures.none h (places log) a.holds.ledger.stands))
@@ -89,45 +89,45 @@ returns-then-must_back_off-clause-backs_off c = λ h offered idle log raised a e
 
 pub returns-in-Some-clause-backs_off : goal.returns-in-Some-clause-backs_off
 returns-in-Some-clause-backs_off c = λ h offered idle log raised a e.
-    let w = c.must_back_off.ensures.no h offered idle log a c.if-must_back_off.false raised e in
+    let w = c.must_back_off.ensures.stays_patient h offered idle log a c.if-must_back_off.false raised e in
     let k : Some c.in-Some.task ≡ None = sym c.in-Some.is ∙ w.untasked in cc
 
 pub returns-then-ecs_due-clause-backs_off : goal.returns-then-ecs_due-clause-backs_off
 returns-then-ecs_due-clause-backs_off c = λ h offered idle log raised a e.
-    let w = c.must_back_off.ensures.no h offered idle log a c.if-must_back_off.false raised e in
+    let w = c.must_back_off.ensures.stays_patient h offered idle log a c.if-must_back_off.false raised e in
     absurd (w.no_scrub (holds c.ecs_due.result _ c.if-ecs_due.true (c.ecs_due.ensures h (places log) a.holds.ledger.stands)))
 
 pub returns-in-Some-due-clause-backs_off : goal.returns-in-Some-due-clause-backs_off
 returns-in-Some-due-clause-backs_off c = λ h offered idle log raised a e.
-    let w = c.must_back_off.ensures.no h offered idle log a c.if-must_back_off.false raised e in
+    let w = c.must_back_off.ensures.stays_patient h offered idle log a c.if-must_back_off.false raised e in
     absurd (some_due c.due.result c.in-Some-due.due _ c.in-Some-due.is (c.due.ensures.none h (places log) a.holds.ledger.stands) w.no_refresh)
 
 pub returns-in-Some-wanted-clause-backs_off : goal.returns-in-Some-wanted-clause-backs_off
 returns-in-Some-wanted-clause-backs_off c = λ h offered idle log raised a e.
-    let w = c.must_back_off.ensures.no h offered idle log a c.if-must_back_off.false raised e in
+    let w = c.must_back_off.ensures.stays_patient h offered idle log a c.if-must_back_off.false raised e in
     absurd (wanted_some c.wanted.result c.in-Some-wanted.address _ c.in-Some-wanted.is (c.wanted.ensures.none h (places log) a.holds.ledger.stands) w.no_management)
 
 -- ---- Why a task is served
 
 pub returns-then-must_back_off-clause-caused : goal.returns-then-must_back_off-clause-caused
 returns-then-must_back_off-clause-caused c = λ h offered idle log a.
-    caused_by_alert c.args.self.now h (places log) c.args.choice c.args.soonest (c.must_back_off.ensures.yes h offered idle log a c.if-must_back_off.true)
+    caused_by_alert c.args.self.now h (places log) c.args.choice c.args.soonest (c.must_back_off.ensures.backs_off h offered idle log a c.if-must_back_off.true)
     (λ raised e. c.must_back_off.ensures.urged h offered idle log raised a c.if-must_back_off.true e)
 
 pub returns-in-Some-clause-caused : goal.returns-in-Some-clause-caused
 returns-in-Some-clause-caused c = λ h offered idle log a.
-    BySetTask c.in-Some.task (c.must_back_off.ensures.no h offered idle log a c.if-must_back_off.false) c.in-Some.is refl
+    BySetTask c.in-Some.task (c.must_back_off.ensures.stays_patient h offered idle log a c.if-must_back_off.false) c.in-Some.is refl
 
 pub returns-then-ecs_due-clause-caused : goal.returns-then-ecs_due-clause-caused
 returns-then-ecs_due-clause-caused c = λ h offered idle log a.
-    ByDue (c.must_back_off.ensures.no h offered idle log a c.if-must_back_off.false) (none_task _ c.in_default.not-Some)
+    ByDue (c.must_back_off.ensures.stays_patient h offered idle log a c.if-must_back_off.false) (none_task _ c.in_default.not-Some)
     (SetsScrub (holds c.ecs_due.result _ c.if-ecs_due.true (c.ecs_due.ensures h (places log) a.holds.ledger.stands)) refl)
 
 pub returns-in-Some-due-clause-caused : goal.returns-in-Some-due-clause-caused
 returns-in-Some-due-clause-caused c = λ h offered idle log a.
     let ledger = a.holds.ledger.stands in
     subst (λ (t : Task). IsCaused c.args.self.now h (places log) c.args.choice c.args.soonest (record { task = t; start = c.max-start.result })) (sym c.refresh_of-task.ensures)
-    (caused_by_refresh c.args.self.now h (places log) c.args.choice c.args.soonest c.next_due.result c.max-start.result c.in-Some-due.due (c.must_back_off.ensures.no h offered idle log a c.if-must_back_off.false) (none_task _ c.in_default.not-Some)
+    (caused_by_refresh c.args.self.now h (places log) c.args.choice c.args.soonest c.next_due.result c.max-start.result c.in-Some-due.due (c.must_back_off.ensures.stays_patient h offered idle log a c.if-must_back_off.false) (none_task _ c.in_default.not-Some)
     (holds_not c.ecs_due.result _ c.if-ecs_due.false (c.ecs_due.ensures h (places log) ledger))
     (some_due c.due.result c.in-Some-due.due _ c.in-Some-due.is (c.due.ensures.none h (places log) ledger))
     (λ clock. c.next_due.ensures h (places log) clock ledger) c.max-start.ensures
@@ -136,7 +136,7 @@ returns-in-Some-due-clause-caused c = λ h offered idle log a.
 pub returns-in-Some-wanted-clause-caused : goal.returns-in-Some-wanted-clause-caused
 returns-in-Some-wanted-clause-caused c = λ h offered idle log a.
     let ledger = a.holds.ledger.stands in
-    ByDue (c.must_back_off.ensures.no h offered idle log a c.if-must_back_off.false) (none_task _ c.in_default.not-Some)
+    ByDue (c.must_back_off.ensures.stays_patient h offered idle log a c.if-must_back_off.false) (none_task _ c.in_default.not-Some)
     (SetsManagement c.in-Some-wanted.address (holds_not c.ecs_due.result _ c.if-ecs_due.false (c.ecs_due.ensures h (places log) ledger))
     (due_none c.due.result _ (none_due _ c.in_default-due.not-Some) (c.due.ensures.none h (places log) ledger))
     (record { wanted = c.in-Some-wanted.ensures.wanted h (places log) ledger; first = c.in-Some-wanted.ensures.least h (places log) ledger }) refl)

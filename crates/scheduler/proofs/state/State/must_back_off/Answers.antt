@@ -6,23 +6,23 @@ use Rattle.scheduler.specs.Steps.{UrgesTask, UrgesAlone, UrgesWindow, UrgesScrub
 use Rattle.scheduler.proofs.Pressing.{window_end, alone, wanted_some}
 use Rattle.scheduler.proofs.state.State.must_back_off.Goals as goal
 
-pub returns-then-is_some-clause-yes : goal.returns-then-is_some-clause-yes
-returns-then-is_some-clause-yes c = λ h offered idle log a t. raised_of c.args.self.now h offered idle log _ c.in-Some.last a (sym c.last_activate.ensures.value ∙ c.in-Some.is)
+pub returns-then-is_some-clause-backs_off : goal.returns-then-is_some-clause-backs_off
+returns-then-is_some-clause-backs_off c = λ h offered idle log a t. raised_of c.args.self.now h offered idle log _ c.in-Some.last a (sym c.last_activate.ensures.value ∙ c.in-Some.is)
 
-pub returns-then-is_none-clause-yes : goal.returns-then-is_none-clause-yes
-returns-then-is_none-clause-yes c = λ h offered idle log a t. raised_of c.args.self.now h offered idle log _ c.in-Some.last a (sym c.last_activate.ensures.value ∙ c.in-Some.is)
+pub returns-then-is_none-clause-backs_off : goal.returns-then-is_none-clause-backs_off
+returns-then-is_none-clause-backs_off c = λ h offered idle log a t. raised_of c.args.self.now h offered idle log _ c.in-Some.last a (sym c.last_activate.ensures.value ∙ c.in-Some.is)
 
-pub returns-then-soonest-last-clause-yes : goal.returns-then-soonest-last-clause-yes
-returns-then-soonest-last-clause-yes c = λ h offered idle log a t. raised_of c.args.self.now h offered idle log _ c.in-Some.last a (sym c.last_activate.ensures.value ∙ c.in-Some.is)
+pub returns-then-soonest-last-clause-backs_off : goal.returns-then-soonest-last-clause-backs_off
+returns-then-soonest-last-clause-backs_off c = λ h offered idle log a t. raised_of c.args.self.now h offered idle log _ c.in-Some.last a (sym c.last_activate.ensures.value ∙ c.in-Some.is)
 
-pub returns-then-ecs_due-clause-yes : goal.returns-then-ecs_due-clause-yes
-returns-then-ecs_due-clause-yes c = λ h offered idle log a t. raised_of c.args.self.now h offered idle log _ c.in-Some.last a (sym c.last_activate.ensures.value ∙ c.in-Some.is)
+pub returns-then-ecs_due-clause-backs_off : goal.returns-then-ecs_due-clause-backs_off
+returns-then-ecs_due-clause-backs_off c = λ h offered idle log a t. raised_of c.args.self.now h offered idle log _ c.in-Some.last a (sym c.last_activate.ensures.value ∙ c.in-Some.is)
 
-pub returns-then-is_some-2-clause-yes : goal.returns-then-is_some-2-clause-yes
-returns-then-is_some-2-clause-yes c = λ h offered idle log a t. raised_of c.args.self.now h offered idle log _ c.in-Some.last a (sym c.last_activate.ensures.value ∙ c.in-Some.is)
+pub returns-then-is_some-2-clause-backs_off : goal.returns-then-is_some-2-clause-backs_off
+returns-then-is_some-2-clause-backs_off c = λ h offered idle log a t. raised_of c.args.self.now h offered idle log _ c.in-Some.last a (sym c.last_activate.ensures.value ∙ c.in-Some.is)
 
-pub returns-clause-yes : goal.returns-clause-yes
-returns-clause-yes c = λ h offered idle log a t. raised_of c.args.self.now h offered idle log _ c.in-Some.last a (sym c.last_activate.ensures.value ∙ c.in-Some.is)
+pub returns-clause-backs_off : goal.returns-clause-backs_off
+returns-clause-backs_off c = λ h offered idle log a t. raised_of c.args.self.now h offered idle log _ c.in-Some.last a (sym c.last_activate.ensures.value ∙ c.in-Some.is)
 
 due_none : (o : Option Due) (P : Type 0) → is_some o ≡ false → (IsNone o ↔ P) → P
 due_none None P e f = f.0 refl
@@ -35,8 +35,8 @@ wanted_none (Some x) P e f = cc
 holds_not : (t : Bool) (P : Type 0) → t ≡ false → (IsTrue t ↔ P) → P → ⊥
 holds_not t P e f p = let g = f.1 p in cc
 
-pub returns-clause-no : goal.returns-clause-no
-returns-clause-no c = λ h offered idle log a t.
+pub returns-clause-stays_patient : goal.returns-clause-stays_patient
+returns-clause-stays_patient c = λ h offered idle log a t.
     let ledger = a.holds.ledger.stands in
     patient_of c.args.self.now h offered idle log c.args.choice c.args.soonest c.in-Some.last a (sym c.last_activate.ensures.value ∙ c.in-Some.is)
     (no_task c.args.self.now.task (sym c.is_some.ensures ∙ c.if-is_some.false)) (some_choice c.args.choice c.is_none.result c.is_none.ensures c.if-is_none.false) (let x = c.if-soonest-last.false in omega (arith, x))

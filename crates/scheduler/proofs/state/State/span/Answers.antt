@@ -14,7 +14,7 @@ overflow_sub-result c =
     let self = c.args.self.now in
     let s = r.4 in
     let e = subst (λ xs. slice_get xs 0 ≡ Some c.waiting_at.result) c.as_slice.ensures.value c.waiting_at.ensures in
-    let i = (c.queued.ensures.each r.0 r.1 r.3 self.queue.items (excused self.task self.finished self.queue.items) 0 c.waiting_at.result s.requested e).upto in
+    let i = (c.queued.ensures.is_queued r.0 r.1 r.3 self.queue.items (excused self.task self.finished self.queue.items) 0 c.waiting_at.result s.requested e).upto in
     let count = s.count in omega (arith, i, count))
 
 pub returns : goal.returns
@@ -22,7 +22,7 @@ unfolding StandsFor
 returns c = λ h offered idle log s.
     let self = c.args.self.now in
     let e = subst (λ xs. slice_get xs 0 ≡ Some c.waiting_at.result) c.as_slice.ensures.value c.waiting_at.ensures in
-    let i = (c.queued.ensures.each h offered log self.queue.items (excused self.task self.finished self.queue.items) 0 c.waiting_at.result s.requested e).upto in
+    let i = (c.queued.ensures.is_queued h offered log self.queue.items (excused self.task self.finished self.queue.items) 0 c.waiting_at.result s.requested e).upto in
     let f = span_first (length offered) (waiting h offered log) c.waiting_at.result (subst (λ xs. slice_get xs 0 ≡ Some c.waiting_at.result) s.requested.waits e) in
     let count = s.count in
     let g : self.offered - c.waiting_at.result.id + 1 ≡ length offered + 1 - c.waiting_at.result.id = omega (arith, count, i) in
@@ -35,5 +35,5 @@ overflow_add-result c =
     let e = subst (λ xs. slice_get xs 0 ≡ Some c.waiting_at.result) c.as_slice.ensures.value c.waiting_at.ensures in
     let from : 1 ≤ c.waiting_at.result.id =
     ∥∥₁_elim c.requires le_prop
-    (λ r. (c.queued.ensures.each r.0 r.1 r.3 self.queue.items (excused self.task self.finished self.queue.items) 0 c.waiting_at.result r.4.requested e).from) in
+    (λ r. (c.queued.ensures.is_queued r.0 r.1 r.3 self.queue.items (excused self.task self.finished self.queue.items) 0 c.waiting_at.result r.4.requested e).from) in
     omega (arith, from)

@@ -1,13 +1,13 @@
-use Rattle.timing_rules.proofs.Earliest.{least_gaps}
+use Rattle.std.proofs.Common.{◌↔◌, ℕ, ◌≤◌, IsTrue, sym, subst}
+use Rattle.speed_bin.specs.Gap.{gap}
+use Rattle.speed_bin.specs.Rules.{rule_2}
+use Rattle.timing_rules.proofs.Reaches.{decides}
+use Rattle.timing_rules.proofs.Spacing.{gap_positive}
 use Rattle.timing_rules.proofs.clocks.Clocks.behind_gaps.Goals as goal
 
 pub returns : goal.returns
 returns c = λ t log s clock.
-    least_gaps c.args.self.now.timing c.args.command.now log clock _ _ _ _ _ _ _ _ _ _ _
-    (c.behind_bus.ensures t log s clock)
-    (c.behind_acts.ensures t log s clock)
-    (c.behind_reads.ensures t log s clock)
-    (c.behind_writes.ensures t log s clock)
-    (c.behind_precharges.ensures t log s clock)
-    (c.behind_busy.ensures t log s clock)
-    c.max.ensures c.max-2.ensures c.max-3.ensures c.max-4.ensures c.max-5.ensures
+    let own = c.args.self.now.timing in
+    let command = c.args.command.now in
+    subst (λ (n : ℕ). IsTrue (rule_2 own clock command log) ↔ (n ≤ clock)) (sym (c.reach_of.ensures t log s))
+    (decides (λ first. gap own first command) clock log (λ first. gap_positive own first command))

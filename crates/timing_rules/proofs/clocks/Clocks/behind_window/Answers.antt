@@ -1,10 +1,12 @@
-use Rattle.std.proofs.Common.{ℕ, ◌≡◌, ◌∙◌, ap, slice_get}
-use Rattle.circular_buffer.specs.Buffer.{Buffer}
-use Rattle.timing_rules.specs.Gate.{act_clocks}
-use Rattle.timing_rules.proofs.Window.{window_row, fourth_kept}
+use Rattle.std.proofs.Common.{◌∙◌, sym, arith}
+use Rattle.timing_rules.proofs.Spacing.{window_passes}
 use Rattle.timing_rules.proofs.clocks.Clocks.behind_window.Goals as goal
 
-pub returns : goal.returns
-returns c = λ t log s clock.
-    let kept : c.copied-first.result ≡ slice_get (act_clocks log) 3 = c.copied-first.ensures ∙ c.get.ensures ∙ ap (λ (b : Buffer ℕ). slice_get b.items 3) s.window ∙ fourth_kept (act_clocks log) in
-    window_row c.args.self.now.timing log c.args.command.now c.is_act.result c.copied-first.result c.row.result s.small kept c.row.ensures c.is_act.ensures clock
+pub returns-then-is_act : goal.returns-then-is_act
+returns-then-is_act c = λ t log s clock. c.behind_fourth.ensures t log s c.args.command.now (sym c.is_act.ensures ∙ c.if-is_act.true) clock
+
+pub returns-else-is_act : goal.returns-else-is_act
+returns-else-is_act c = λ t log s clock. (
+  λ h. omega arith,
+  λ h. window_passes c.args.self.now.timing clock c.args.command.now log (sym c.is_act.ensures ∙ c.if-is_act.false),
+)

@@ -11,3 +11,6 @@ invariant_of-self c = (
   ∥∥₁_map c.requires.follows
       (λ m. (m.0, record { clock = c.args.clock; command = c.args.command.now } ∷ m.1, c.issue.ensures.stands m.0 m.1 (subst (λ (x : Clocks). StandsFor x m.0 m.1) (sym (c.deref_mut.ensures.value ∙ c.self.view_is)) m.2) m.3)),
 )
+
+pub issue-requires-clause-timing : goal.issue-requires-clause-timing
+issue-requires-clause-timing c = subst (λ (x : Clocks). IsTiming x.timing) (sym c.deref_mut.ensures.value) c.self.invariant.0

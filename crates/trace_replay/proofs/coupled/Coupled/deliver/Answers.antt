@@ -69,7 +69,7 @@ returns-clause-alert c = λ h offered idle steps step stands e.
     kept.alert ∙ ap (λ (it : NumberedStep). is_some (alert h (it.issued ∷ log_of steps))) (same_step self.pending p step here is)
 
 pub invariant_of-self : goal.invariant_of-self
-invariant_of-self c = same_device c.unchanged_stands.ensures c.self.inside.ends c.step.new.self c.in_err-reply.ensures.err c.self.invariant
+invariant_of-self c = same_device c.unchanged_stands.ensures c.self.inside.ends c.step.new.self c.in_err-reply.ensures.unchanged c.self.invariant
 
 pub invariant_of-self-2 : goal.invariant_of-self-2
 unfolding StandsFor pending_of

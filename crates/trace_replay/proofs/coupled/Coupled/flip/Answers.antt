@@ -23,7 +23,7 @@ flip-requires-clause-bit c = c.requires.in_word
 
 pub invariant_of-self : goal.invariant_of-self
 invariant_of-self c =
-    flipped_some c.flip.result c.unchanged_stands.ensures c.self.inside.ends c.flip.new.self c.args.place c.args.device c.args.bit c.flip.ensures.stands c.flip.ensures.err c.self.invariant
+    flipped_some c.flip.result c.unchanged_stands.ensures c.self.inside.ends c.flip.new.self c.args.place c.args.device c.args.bit c.flip.ensures.stands c.flip.ensures.unchanged c.self.invariant
 
 pub returns-clause-stands : goal.returns-clause-stands
 returns-clause-stands c =
@@ -37,4 +37,4 @@ returns-clause-unchanged c =
     let self = c.self.inside.ends in
     subst (λ (x : Ends). OnErr c.flip.result ((h : Header) (offered : List Request) (idle : ℕ) (steps : List Step) → StandsFor x h offered idle steps
     → StandsFor (record { controller = self.controller; device = c.flip.new.self; pending = self.pending; alert = self.alert }) h offered idle steps)) c.self.view_is
-    (unchanged c.flip.result c.unchanged_stands.ensures self c.flip.new.self c.flip.ensures.err)
+    (unchanged c.flip.result c.unchanged_stands.ensures self c.flip.new.self c.flip.ensures.unchanged)

@@ -16,4 +16,4 @@ unfolding controller_of
 offer-requires-clause-inside c = subst (λ (x : Ends). c.args.request.line < lines_of (shape_of (controller_header x.controller))) (sym c.self.view_is) c.requires.inside
 
 pub invariant_of-self : goal.invariant_of-self
-invariant_of-self c = offered_some c.offer.result c.self.inside.ends c.offer.new.self c.args.request c.offer.ensures.ok c.offer.ensures.err c.self.invariant
+invariant_of-self c = offered_some c.offer.result c.self.inside.ends c.offer.new.self c.args.request c.offer.ensures.stands c.offer.ensures.unchanged c.self.invariant

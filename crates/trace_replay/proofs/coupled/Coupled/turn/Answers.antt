@@ -23,7 +23,7 @@ returns-clause-after c = λ h offered idle steps stands.
     let self = c.self.inside.ends in
     let s = subst (λ (x : Ends). StandsFor x h offered idle steps) (sym c.self.view_is) stands in
     let none = subst (λ (x : Ends). pending_of x ≡ None) (sym c.self.view_is) c.requires.pending in
-    let laws : Laws = record { inside = c.inside.ensures.row; own = c.inside.ensures.bank; newest = c.passed.ensures.newest; near = c.passed.ensures.near } in
+    let laws : Laws = record { inside = c.inside.ensures.row; own = c.inside.ensures.bank; newest = c.passed.ensures.newest; near = c.passed.ensures.below_the_limit } in
     subst (λ (x : Ends). After c.next-turn.result (from_of x) (until_of x) (finished_of x) h
     (record { controller = c.next-turn.new.self; device = self.device; pending = c.pending_in-self-inside.result; alert = self.alert }) offered idle steps) c.self.view_is
     (after_turn c.next-turn.result _ _ _ h self c.next-turn.new.self c.pending_in-self-inside.result offered idle steps laws none s
@@ -35,7 +35,7 @@ unfolding StandsFor pending_of
 invariant_of-self c =
     let self = c.self.inside.ends in
     let none = subst (λ (x : Ends). pending_of x ≡ None) (sym c.self.view_is) c.requires.pending in
-    let laws : Laws = record { inside = c.inside.ensures.row; own = c.inside.ensures.bank; newest = c.passed.ensures.newest; near = c.passed.ensures.near } in
+    let laws : Laws = record { inside = c.inside.ensures.row; own = c.inside.ensures.bank; newest = c.passed.ensures.newest; near = c.passed.ensures.below_the_limit } in
     ∥∥₁_map c.self.invariant (λ m. (
       m.0,
       m.1,

@@ -15,12 +15,12 @@ use Rattle.trace_replay.proofs.replay_state.ReplayState.flip.Goals as goal
 
 laws_in : (g : given.Over) → goal.After-put_line g → FlipLaws
 laws_in g c = record {
-  kept = c.carries_out_a_flip.ensures.kept;
+  kept = c.carries_out_a_flip.ensures.stays_underway;
   offers = c.carries_out_a_flip.ensures.offered;
   lines = c.carries_out_a_flip.ensures.lines;
   idle = c.carries_out_a_flip.ensures.idle;
   inside = c.takes_a_request.ensures.inside;
-  steps = c.gives_to_a_controller.ensures.longer;
+  steps = c.gives_to_a_controller.ensures.same_in_a_longer_trace;
   device = c.rests_on_the_lines_so_far.ensures.device;
   report_is = c.rests_on_the_lines_so_far.ensures.report;
   parts = c.takes_from_the_held.ensures.parts;
@@ -49,8 +49,8 @@ returns-in-Ok-clause-under g c =
     (subst (λ n. Appends old new (spelled (FlipLine n c.args.line c.args.device c.args.bit))) last w) a))
     c.put_line.ensures.whole
 
-pub returns-in-Ok-clause-cut : goal.returns-in-Ok-clause-cut
-returns-in-Ok-clause-cut g c =
+pub returns-in-Ok-clause-begins_a_report : goal.returns-in-Ok-clause-begins_a_report
+returns-in-Ok-clause-begins_a_report g c =
     let old = g.K.Sink.written c.args.sink.now in
     let new = g.K.Sink.written c.put_line.new.sink in
     let last : c.take_line.new.self.last ≡ c.args.self.now.last = ap (λ (q : ReplayState). q.last) c.take_line.ensures in
@@ -59,7 +59,7 @@ returns-in-Ok-clause-cut g c =
     ((h : Header) (start left before : Option (List ℕ)) → IsAtRest h c.args.self.now start left before old → IsBegun h start before new)
     (λ w. λ h start left before a. flip-begun (laws_in g c) h c.args.self.now c.args.line c.args.device c.args.bit start left before old new c.requires.ahead
     (subst (λ n. AppendsPrefix old new (spelled (FlipLine n c.args.line c.args.device c.args.bit))) last w) a)
-    c.put_line.ensures.cut
+    c.put_line.ensures.writes_a_prefix
 
 pub returns-in-Ok-clause-fewer : goal.returns-in-Ok-clause-fewer
 returns-in-Ok-clause-fewer g c =
@@ -68,5 +68,5 @@ returns-in-Ok-clause-fewer g c =
     let fewer = left-taken c.args.self.now c.take_line.new.self (ap (λ (q : ReplayState). q.tally.lines) c.take_line.ensures) (ap (λ (q : ReplayState). q.commands) c.take_line.ensures) more.few in
     on_ok-to c.put_line.result _ (left_of c.take_line.new.self < left_of c.args.self.now) (λ w. fewer) c.put_line.ensures.whole
 
-pub returns-in-Err-clause-cut : goal.returns-in-Err-clause-cut
-returns-in-Err-clause-cut g c = λ h start left before a. begun-of h c.args.self.now start left before (g.K.Sink.written c.args.sink.now) a.under
+pub returns-in-Err-clause-begins_a_report : goal.returns-in-Err-clause-begins_a_report
+returns-in-Err-clause-begins_a_report g c = λ h start left before a. begun-of h c.args.self.now start left before (g.K.Sink.written c.args.sink.now) a.under

@@ -17,4 +17,4 @@ idle-requires c =
 
 pub returns-clause-under : goal.returns-clause-under
 returns-clause-under c = λ h start left before written a.
-    idled-under c.begins_a_run.ensures.later h c.args.self.now c.idle.new.self c.args.clocks start left before written c.requires.ahead (c.idle.ensures.stands h) c.idle.ensures.pending c.idle.ensures.from c.idle.ensures.until c.idle.ensures.finished a
+    idled-under c.begins_a_run.ensures.time_passes h c.args.self.now c.idle.new.self c.args.clocks start left before written c.requires.ahead (c.idle.ensures.stands h) c.idle.ensures.pending c.idle.ensures.from c.idle.ensures.until c.idle.ensures.finished a

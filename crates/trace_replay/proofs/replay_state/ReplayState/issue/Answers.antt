@@ -12,14 +12,14 @@ use Rattle.ddr_text.proofs.Prefixes.{on_ok-to, if_err-to, if_err, prefix-behind,
 use Rattle.trace_replay.proofs.Delivering.{issued-holds}
 use Rattle.trace_replay.proofs.replay_state.ReplayState.issue.Goals as goal
 
-pub returns-in_err-put_issued-clause-cut : goal.returns-in_err-put_issued-clause-cut
-returns-in_err-put_issued-clause-cut g c =
+pub returns-in_err-put_issued-clause-writes_a_prefix : goal.returns-in_err-put_issued-clause-writes_a_prefix
+returns-in_err-put_issued-clause-writes_a_prefix g c =
     if_err c.from_residual.result _ (λ h trace run k.
     let step = issue trace c.args.clock c.args.command (number_of c.args.id) in
-    prefix-longer (g.K.Sink.written c.args.sink.now) (g.K.Sink.written c.put_issued.new.sink) (spelled (IssuedLine c.args.clock c.args.command)) (flat_map spelled (answers h trace (step ∷ run) (ready (held (requests trace) run) (step ∷ run)))) c.in_err-put_issued.ensures.cut)
+    prefix-longer (g.K.Sink.written c.args.sink.now) (g.K.Sink.written c.put_issued.new.sink) (spelled (IssuedLine c.args.clock c.args.command)) (flat_map spelled (answers h trace (step ∷ run) (ready (held (requests trace) run) (step ∷ run)))) c.in_err-put_issued.ensures.writes_a_prefix)
 
-pub returns-in_err-deliver-clause-cut : goal.returns-in_err-deliver-clause-cut
-returns-in_err-deliver-clause-cut g c =
+pub returns-in_err-deliver-clause-writes_a_prefix : goal.returns-in_err-deliver-clause-writes_a_prefix
+returns-in_err-deliver-clause-writes_a_prefix g c =
     if_err c.from_residual-in_err-deliver.result _ (λ h trace run k.
     let step = issue trace c.args.clock c.args.command (number_of c.args.id) in
     let line = spelled (IssuedLine c.args.clock c.args.command) in
@@ -42,10 +42,10 @@ returns-clause-wrote g c =
     Appends-trans (g.K.Sink.written c.args.sink.now) (g.K.Sink.written c.put_issued.new.sink) (g.K.Sink.written c.put_answers.new.sink) (spelled (IssuedLine c.args.clock c.args.command)) (flat_map spelled (answers h trace (step ∷ run) (ready (held (requests trace) run) (step ∷ run))))
     c.in_ok-put_issued.ensures.whole (wrote h trace (step ∷ run) (length (ready (requests trace) run)) (held (requests trace) run) d.kept)) c.put_answers.ensures.wrote
 
-pub returns-clause-cut : goal.returns-clause-cut
-returns-clause-cut g c =
+pub returns-clause-writes_a_prefix : goal.returns-clause-writes_a_prefix
+returns-clause-writes_a_prefix g c =
     if_err-to c.put_answers.result _ _ (λ cut. λ h trace run k.
     let step = issue trace c.args.clock c.args.command (number_of c.args.id) in
     let d = c.in_ok-deliver.ensures.delivered h trace run c.args.clock k in
     prefix-behind (g.K.Sink.written c.args.sink.now) (g.K.Sink.written c.put_issued.new.sink) (g.K.Sink.written c.put_answers.new.sink) (spelled (IssuedLine c.args.clock c.args.command)) (flat_map spelled (answers h trace (step ∷ run) (ready (held (requests trace) run) (step ∷ run))))
-    c.in_ok-put_issued.ensures.whole (cut h trace (step ∷ run) (length (ready (requests trace) run)) (held (requests trace) run) d.kept)) c.put_answers.ensures.cut
+    c.in_ok-put_issued.ensures.whole (cut h trace (step ∷ run) (length (ready (requests trace) run)) (held (requests trace) run) d.kept)) c.put_answers.ensures.writes_a_prefix

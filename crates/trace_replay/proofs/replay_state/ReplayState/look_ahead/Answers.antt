@@ -5,8 +5,8 @@ use Rattle.ddr_io.specs.Line.{next_bytes}
 use Rattle.trace_replay.proofs.Under.{left-off, looked, left-next}
 use Rattle.trace_replay.proofs.replay_state.ReplayState.look_ahead.Goals as goal
 
-pub returns-in_err-next-in-Unknown-clause-cut : goal.returns-in_err-next-in-Unknown-clause-cut
-returns-in_err-next-in-Unknown-clause-cut g c =
+pub returns-in_err-next-in-Unknown-clause-begins_a_report : goal.returns-in_err-next-in-Unknown-clause-begins_a_report
+returns-in_err-next-in-Unknown-clause-begins_a_report g c =
     if_err c.from_residual.result _ (λ h start before written u.
     left-off c.agrees.ensures.controller c.bounds.ensures.few c.counts_the_unserved.ensures.waiting h c.args.self.now start (next_bytes c.args.reader.now.held (g.S.Source.left c.args.source.now)) before written c.next_line.new.reader.held (g.S.Source.left c.next_line.new.source) c.in-Unknown.is u c.in_err-next-in-Unknown.ensures.unread)
 

@@ -10,12 +10,12 @@ use Rattle.trace_replay.proofs.replay_state.ReplayState.offer.Goals as goal
 
 laws_in : goal.After-push-arg-1 → Laws
 laws_in c = record {
-  takes = c.takes_a_request.ensures.kept;
+  takes = c.takes_a_request.ensures.stays_underway;
   offers = c.takes_a_request.ensures.offered;
   helds = c.takes_a_request.ensures.held;
   idle = c.takes_a_request.ensures.idle;
   inside = c.takes_a_request.ensures.inside;
-  steps = c.gives_to_a_controller.ensures.longer;
+  steps = c.gives_to_a_controller.ensures.same_in_a_longer_trace;
   device = c.rests_on_the_lines_so_far.ensures.device;
   report_is = c.rests_on_the_lines_so_far.ensures.report;
   parts = c.takes_from_the_held.ensures.parts;
@@ -30,12 +30,12 @@ laws_in c = record {
 
 laws_after : goal.After-take_line → Laws
 laws_after c = record {
-  takes = c.takes_a_request.ensures.kept;
+  takes = c.takes_a_request.ensures.stays_underway;
   offers = c.takes_a_request.ensures.offered;
   helds = c.takes_a_request.ensures.held;
   idle = c.takes_a_request.ensures.idle;
   inside = c.takes_a_request.ensures.inside;
-  steps = c.gives_to_a_controller.ensures.longer;
+  steps = c.gives_to_a_controller.ensures.same_in_a_longer_trace;
   device = c.rests_on_the_lines_so_far.ensures.device;
   report_is = c.rests_on_the_lines_so_far.ensures.report;
   parts = c.takes_from_the_held.ensures.parts;
@@ -65,9 +65,9 @@ push-requires-clause-few c = let k = next-few c.takes_from_the_held.ensures.part
 
 pub returns-in-Ok-clause-under : goal.returns-in-Ok-clause-under
 returns-in-Ok-clause-under c = λ h start left before written u.
-    let stands : (offers : List Asked) (idle : ℕ) (steps : List Step) → StandsFor c.args.self.now.coupled h offers idle steps → StandsFor c.offer.new.self h (offers ++ c.args.request ∷ []) idle steps = λ offers idle steps s. subst (λ (r : Asked). StandsFor c.offer.new.self h (offers ++ r ∷ []) idle steps) c.again.ensures (c.in-Ok.ensures.ok h offers idle steps s) in
+    let stands : (offers : List Asked) (idle : ℕ) (steps : List Step) → StandsFor c.args.self.now.coupled h offers idle steps → StandsFor c.offer.new.self h (offers ++ c.args.request ∷ []) idle steps = λ offers idle steps s. subst (λ (r : Asked). StandsFor c.offer.new.self h (offers ++ r ∷ []) idle steps) c.again.ensures (c.in-Ok.ensures.stands h offers idle steps s) in
     subst (λ (q : ReplayState). IsUnder h q start left before written) (sym (c.take_line.ensures ∙ ap (λ k. taken (record c.args.self.now { coupled = c.offer.new.self; held = k }) 0) c.push.ensures))
     (offered-one (laws_after c) requests-one h c.args.self.now c.offer.new.self c.requires.asked.line c.args.request c.args.bytes start left before written c.requires.asked.waits c.requires.asked.asks stands c.in-Ok.ensures.pending c.in-Ok.ensures.from c.in-Ok.ensures.finished u)
 
 pub returns-in-Err-clause-under : goal.returns-in-Err-clause-under
-returns-in-Err-clause-under c = λ h start left before written u. subst (λ k. IsUnder h (record c.args.self.now { coupled = k }) start left before written) (sym c.in-Err.ensures.err) u
+returns-in-Err-clause-under c = λ h start left before written u. subst (λ k. IsUnder h (record c.args.self.now { coupled = k }) start left before written) (sym c.in-Err.ensures.unchanged) u

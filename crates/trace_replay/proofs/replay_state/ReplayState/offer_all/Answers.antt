@@ -25,9 +25,9 @@ pub returns-then-not-offer_next-clause-unasked : goal.returns-then-not-offer_nex
 returns-then-not-offer_next-clause-unasked g c = λ reason e.
     let k = c.lines.invariant.unasked reason e in c.look_ahead.ensures.unasked (refused-known c.lines.self.ahead reason k.1) ∙ k.0
 
-pub returns-in_err-look_ahead-clause-cut : goal.returns-in_err-look_ahead-clause-cut
-returns-in_err-look_ahead-clause-cut g c =
-    if_err c.from_residual.result _ (λ h start before written u. c.in_err-look_ahead.ensures.cut h start before written (c.lines.invariant.under h start before written u))
+pub returns-in_err-look_ahead-clause-begins_a_report : goal.returns-in_err-look_ahead-clause-begins_a_report
+returns-in_err-look_ahead-clause-begins_a_report g c =
+    if_err c.from_residual.result _ (λ h start before written u. c.in_err-look_ahead.ensures.begins_a_report h start before written (c.lines.invariant.under h start before written u))
 
 pub offer_next-requires-clause-holds : goal.offer_next-requires-clause-holds
 offer_next-requires-clause-holds g c =
@@ -60,17 +60,17 @@ lines-preserved g c =
       under = λ h start before written w. c.offer_next.ensures.under h start (next_bytes c.look_ahead.new.reader.held (g.S.Source.left c.look_ahead.new.source)) before written (c.in_ok-look_ahead.ensures.under h start before written (c.lines.invariant.under h start before written w));
       going_on = c.offer_next.ensures.goes_on c.look_ahead.new.reader.last c.in_ok-look_ahead.ensures.going_on;
       fewer = omega (arith, c.lines.invariant.fewer, c.look_ahead.ensures.fewer, c.offer_next.ensures.fewer);
-      kept = c.in_ok-look_ahead.ensures.kept ∙ c.lines.invariant.kept;
+      kept = c.in_ok-look_ahead.ensures.faults_kept ∙ c.lines.invariant.kept;
       unasked = λ reason e.
           let n = c.offer_next.ensures.refused reason (ap (λ (p : ReplayState). p.ahead) (c.look_ahead.ensures.known_still (refused-known c.lines.self.ahead reason (c.lines.invariant.unasked reason e).1)) ∙ (c.lines.invariant.unasked reason e).1) in
           let f = c.if-not-offer_next.false in cc;
     }
 
-pub returns-in_err-look_ahead-clause-later : goal.returns-in_err-look_ahead-clause-later
-returns-in_err-look_ahead-clause-later g c = omega (arith, c.look_ahead.ensures.later, c.lines.invariant.kept)
+pub returns-in_err-look_ahead-clause-faults_never_fall : goal.returns-in_err-look_ahead-clause-faults_never_fall
+returns-in_err-look_ahead-clause-faults_never_fall g c = omega (arith, c.look_ahead.ensures.faults_never_fall, c.lines.invariant.kept)
 
-pub returns-then-not-offer_next-clause-later : goal.returns-then-not-offer_next-clause-later
-returns-then-not-offer_next-clause-later g c = omega (arith, c.look_ahead.ensures.later, c.lines.invariant.kept)
+pub returns-then-not-offer_next-clause-faults_never_fall : goal.returns-then-not-offer_next-clause-faults_never_fall
+returns-then-not-offer_next-clause-faults_never_fall g c = omega (arith, c.look_ahead.ensures.faults_never_fall, c.lines.invariant.kept)
 
-pub returns-then-not-offer_next-clause-kept : goal.returns-then-not-offer_next-clause-kept
-returns-then-not-offer_next-clause-kept g c = c.in_ok-look_ahead.ensures.kept ∙ c.lines.invariant.kept
+pub returns-then-not-offer_next-clause-faults_kept : goal.returns-then-not-offer_next-clause-faults_kept
+returns-then-not-offer_next-clause-faults_kept g c = c.in_ok-look_ahead.ensures.faults_kept ∙ c.lines.invariant.kept

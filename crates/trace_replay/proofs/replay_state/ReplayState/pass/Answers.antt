@@ -8,11 +8,11 @@ use Rattle.trace_replay.proofs.replay_state.ReplayState.pass.Goals as goal
 pub returns-in-Passes-clause-under : goal.returns-in-Passes-clause-under
 returns-in-Passes-clause-under g c = λ h start left before a.
     let laws : IdleLaws = record {
-      waited = c.carries_out_an_idle.ensures.kept;
+      waited = c.carries_out_an_idle.ensures.stays_underway;
       offers = c.carries_out_an_idle.ensures.offered;
       idle = c.carries_out_an_idle.ensures.idle;
       inside = c.takes_a_request.ensures.inside;
-      steps = c.gives_to_a_controller.ensures.longer;
+      steps = c.gives_to_a_controller.ensures.same_in_a_longer_trace;
       device = c.rests_on_the_lines_so_far.ensures.device;
       report_is = c.rests_on_the_lines_so_far.ensures.report;
       parts = c.takes_from_the_held.ensures.parts;

@@ -12,11 +12,11 @@ issue-requires g c =
     let r = c.requires.ready in
     record { issuing = (r.0, r.1, r.2, c.in-Issue.ensures.turned r.0 r.1 r.2 r.3 r.4) }
 
-pub returns-in_err-issue-in-Issue-clause-cut : goal.returns-in_err-issue-in-Issue-clause-cut
-returns-in_err-issue-in-Issue-clause-cut g c = if_err c.from_residual.result _ (λ h start left before u.
+pub returns-in_err-issue-in-Issue-clause-begins_a_report : goal.returns-in_err-issue-in-Issue-clause-begins_a_report
+returns-in_err-issue-in-Issue-clause-begins_a_report g c = if_err c.from_residual.result _ (λ h start left before u.
     let i = c.in-Issue.ensures.turned h u.under.trace u.under.run u.under.holds u.filled in
-    issued-begun c.issues_a_command.ensures.kept h c.turned.new.self u.under.trace u.under.run c.in-Issue.clock c.in-Issue.command c.in-Issue.id start before (g.K.Sink.written c.args.sink.now) (g.K.Sink.written c.issue.new.sink)
-    (front-of (shape_of h) u.under.trace c.args.self.now.ahead start left u.under.read) u.under.wrote i (c.in_err-issue-in-Issue.ensures.cut h u.under.trace u.under.run i))
+    issued-begun c.issues_a_command.ensures.stays_underway h c.turned.new.self u.under.trace u.under.run c.in-Issue.clock c.in-Issue.command c.in-Issue.id start before (g.K.Sink.written c.args.sink.now) (g.K.Sink.written c.issue.new.sink)
+    (front-of (shape_of h) u.under.trace c.args.self.now.ahead start left u.under.read) u.under.wrote i (c.in_err-issue-in-Issue.ensures.writes_a_prefix h u.under.trace u.under.run i))
 
 pub returns-in_ok-issue-in-Issue-clause-after : goal.returns-in_ok-issue-in-Issue-clause-after
 returns-in_ok-issue-in-Issue-clause-after g c = λ h start left before u.
@@ -36,10 +36,10 @@ pass-requires-clause-rests g c =
     let r = c.requires.ready in
     (r.0, r.1, r.2, c.in-Idle.ensures.turned r.0 r.1 r.2 r.3 r.4)
 
-pub returns-in_err-pass-in-Idle-clause-cut : goal.returns-in_err-pass-in-Idle-clause-cut
-returns-in_err-pass-in-Idle-clause-cut g c = if_err c.from_residual-in_err-pass-in-Idle.result _ (λ h start left before u.
+pub returns-in_err-pass-in-Idle-clause-begins_a_report : goal.returns-in_err-pass-in-Idle-clause-begins_a_report
+returns-in_err-pass-in-Idle-clause-begins_a_report g c = if_err c.from_residual-in_err-pass-in-Idle.result _ (λ h start left before u.
     let r = c.in-Idle.ensures.turned h u.under.trace u.under.run u.under.holds u.filled in
-    c.in_err-pass-in-Idle.ensures.cut h start left before (at-rest-of h c.args.self.now c.turned.new.self start left before (g.K.Sink.written c.args.sink.now) u.under c.turned.ensures.ahead r))
+    c.in_err-pass-in-Idle.ensures.begins_a_report h start left before (at-rest-of h c.args.self.now c.turned.new.self start left before (g.K.Sink.written c.args.sink.now) u.under c.turned.ensures.ahead r))
 
 pub returns-in_ok-pass-in-Idle-clause-after : goal.returns-in_ok-pass-in-Idle-clause-after
 returns-in_ok-pass-in-Idle-clause-after g c = λ h start left before u.

@@ -1,0 +1,4 @@
+pub mod Answers
+pub mod Effects
+pub mod Handle
+pub mod Standing

@@ -1,0 +1,3 @@
+pub mod Behind
+pub mod Named
+pub mod Rising

@@ -1,0 +1,20 @@
+use Rattle.std.proofs.Common.{◌==◌, refl}
+use Rattle.command_words.specs.Command.{bank_number}
+use Rattle.timing_rules.proofs.NoBlock.{none_there}
+use Rattle.timing_rules.proofs.spans.after_wr.Goals as goal
+
+pub returns : goal.returns
+returns c = λ bank column. record {
+  bus = refl;
+  floor = refl;
+  act = refl;
+  rd = refl;
+  wr = refl;
+  act_group = λ g. none_there (bank.group == g);
+  rd_group = λ g. refl;
+  wr_group = λ g. refl;
+  act_bank = λ b. none_there (bank_number bank == b);
+  column = λ b. none_there (bank_number bank == b);
+  pre = λ b. refl;
+  closed = λ b. none_there (bank_number bank == b);
+}
