@@ -35,8 +35,9 @@ int ddr_sv_step(void *slot, unsigned long long clock, unsigned short first, unsi
 
 int ddr_sv_flip(void *slot, unsigned line, unsigned char device, unsigned char bit) { return ddr_flip(slot, line, device, bit); }
 
-/* The end; the slot is gone after it. */
+/* The end; the slot is gone after it. A null one, of a header that was refused, is answered as an empty one. */
 int ddr_sv_end(void *slot, unsigned long long clock) {
+    if (!slot) return DDR_EMPTY;
     int answer = ddr_end(slot, clock);
     ddr_close(slot);
     free(slot);
