@@ -15,7 +15,6 @@
  *   - pointers lead to what they say, which is the caller's alone during the call; header and line are never null (where length is 0
  *     too);
  *   - a slot is given to one call at a time, and stays on the thread that opened it; other slots may be used at the same time;
- *   - a slot that has a session is closed before it is opened again;
  *   - malloc, realloc and free are those of one allocator.
  *
  * What each function answers:
@@ -70,8 +69,9 @@ typedef struct ddr_totals {
 } ddr_totals;
 
 /* Opens a slot under a header: the lines of docs/FORMATS.md, "The header", as text of this length (no zero byte is looked for).
- * cycle and groups are what the separator of a report states: 4 and 8 for a plain `---`, A and G for `--- 2 A G`. What the slot had
- * is forgotten, and its memory not given back: so close it first. Where the answer is not 0, the slot has what it had. */
+ * cycle and groups are what the separator of a report states: 4 and 8 for a plain `---`, A and G for `--- 2 A G`. Where the slot has
+ * a session and the answer is 0, that session is closed, as ddr_close does; memory for the new one is taken before. Where the answer
+ * is not 0, the slot has what it had. */
 uint8_t ddr_open(ddr_slot *slot, const uint8_t *header, size_t length, uint32_t cycle, uint8_t groups);
 
 /* Takes a command, by its one or two words (CA[13:0], docs/FORMATS.md, "Words of a command"), at the clock of its first word. The

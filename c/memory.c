@@ -1,6 +1,6 @@
-/* memory.c: each allocation is refused in turn, while a slot is opened, a line written, a bit of another one turned, a line read and
- * the log ended. Each call that is refused is to answer 254; the same call again, with memory, is to go on; the line that is read is
- * to be the one that was written; and nothing is to be left behind. Linked with --wrap=malloc, --wrap=realloc and --wrap=free. */
+/* memory.c: each allocation is refused in turn, while a slot is opened, opened again, a line written, a bit of another one turned, a
+ * line read and the log ended. Each call that is refused is to answer 254; the same call again, with memory, is to go on; the line
+ * that is read is to be the one that was written; and nothing is to be left behind. Linked with --wrap=malloc, --wrap=realloc and --wrap=free. */
 #include "ddr_c.h"
 #include <stdio.h>
 #include <stdlib.h>
@@ -46,18 +46,25 @@ static const struct command {
     {16, 0x0885, 0x0000, true}, {20, 0x08a5, 0x0008, true}, {24, 0x08c5, 0x0010, true}, {28, 0x08e5, 0x0000, true},
     {32, 0x0000, 0x0000, true}, {35, 0x002d, 0x0c00, true}, {51, 0x003d, 0x0400, true}, {54, 0x001b, 0x0000, false},
 };
-enum { COMMANDS = sizeof commands / sizeof *commands, STEPS = COMMANDS + 3, FLIP = 11 };
+enum { COMMANDS = sizeof commands / sizeof *commands, OPENINGS = 2, FLIP = 12, STEPS = OPENINGS + COMMANDS + 2 };
 
 static ddr_slot slot;
 static ddr_line line;
 
-/* Step 0 opens the slot, the last one ends the log, FLIP turns a bit, and the others are the commands. */
+/* The first steps open the slot, the last one ends the log, FLIP turns a bit, and the others are the commands. */
 static int step(int number) {
-    if (number == 0) return ddr_open(&slot, (const uint8_t *)header, sizeof header - 1, 4, 8);
+    if (number < OPENINGS) return ddr_open(&slot, (const uint8_t *)header, sizeof header - 1, 4, 8);
     if (number == FLIP) return ddr_flip(&slot, 5, 3, 135);
     if (number == STEPS - 1) return ddr_end(&slot, 60);
-    const struct command *it = &commands[number < FLIP ? number - 1 : number - 2];
+    const struct command *it = &commands[number - OPENINGS - (number > FLIP)];
     return ddr_step(&slot, it->clock, it->first, it->second, it->has_second, &line);
+}
+
+/* Whether the slot is as a refused step has to leave it: a first opening leaves nothing, a second one what there was; a bit that is
+ * not turned leaves the log open; and a WR waits, so that no end is taken. */
+static bool is_as_before(int number) {
+    if (number < OPENINGS) return ddr_lines(&slot) == (number == 0 ? 0 : 32768);
+    return number == FLIP || ddr_end(&slot, 60) == DDR_NO_MEMORY;
 }
 
 /* All steps, where this allocation is refused. Answers whether one was, and -1 where something is wrong. */
@@ -71,9 +78,7 @@ static int try(long refused_at) {
         int answer = step(number);
         if (answer == DDR_NO_MEMORY && !refused) {
             refused = true;
-            /* Nothing is in the slot yet, or a WR waits, so that no end is taken. */
-            int other = number == FLIP ? DDR_NO_MEMORY : ddr_end(&slot, 60);
-            if (other != (number == 0 ? DDR_EMPTY : DDR_NO_MEMORY)) return printf("step %d: the end is answered with %d\n", number, other), -1;
+            if (!is_as_before(number)) return printf("step %d: what was refused changed the slot\n", number), -1;
             answer = step(number);
         }
         if (answer != 0) return printf("step %d is answered with %d\n", number, answer), -1;

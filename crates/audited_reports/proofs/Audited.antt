@@ -1,5 +1,5 @@
 -- What an audit finds in a finished report.
-use Rattle.std.proofs.Common.{◌*◌, inl, inr, ◌≡◌, ℕ, ◌^◌, ◌<◌, ◌≤◌, Option, Some, None, List, [], ◌∷◌, ◌++◌, reverse, length, sum, refl, sym, ap, ◌∙◌, subst, arith, append_assoc, append-nil}
+use Rattle.std.proofs.Common.{◌*◌, inl, inr, ◌≡◌, ℕ, ◌^◌, ◌≤◌, Option, Some, None, List, [], ◌∷◌, ◌++◌, reverse, length, refl, sym, ap, ◌∙◌, subst, arith, append_assoc, append-nil}
 use Rattle.std.specs.List.{flat_map}
 use Rattle.std.specs.Io.KnownBytes.{Appends}
 use Rattle.ddr_io.specs.declared.status.Status.{Status}
@@ -22,15 +22,13 @@ use Rattle.speed_bin.specs.Counts.{LogCounts}
 use Rattle.speed_bin.specs.Header.{IsAccepted, shape_of}
 use Rattle.speed_bin.specs.Rules.{verdict_at_end}
 use Rattle.speed_bin.specs.declared.header.Header.{Header}
-use Rattle.reports.specs.Barriers.{idle_clocks}
 use Rattle.reports.specs.Delivered.{device_steps, AreInside}
 use Rattle.reports.specs.Headline.{shown_log}
 use Rattle.reports.specs.Report.{report}
 use Rattle.reports.specs.Runs.{Run, log_of}
-use Rattle.reports.specs.Sound.{IsRun}
 use Rattle.reports.specs.Stats.{stat_lines, stats}
-use Rattle.reports.specs.Whole.{IsReportOf, whole}
-use Rattle.audited_reports.specs.Audited.{IsAuditedOk, IsTold, IsWithinLimits, SaysOk}
+use Rattle.reports.specs.Whole.{whole}
+use Rattle.audited_reports.specs.Audited.{IsAuditedOk, IsEnding, IsTold, SaysOk}
 use Rattle.audited_reports.proofs.Ranges.{AreBody, report-body}
 use Rattle.audited_reports.proofs.Read.{reads-back}
 use Rattle.ddr_text.proofs.Reopened.{reopens}
@@ -89,8 +87,6 @@ no-breach h trace run clock refusal body fine =
 pub record Laws : Type 0 where
   pub grammar : ReportLines
   pub device : (h : Header) (trace : List TraceLine) (run : Run) → device_log (device_steps h trace run) ≡ log_of run
-  pub verdict : (h : Header) (trace : List TraceLine) (run : Run) (clock : ℕ) → IsAccepted h → AreInside (shape_of h) trace → IsRun h trace run clock → verdict_at_end h clock (shown_log h trace run) ≡ None
-  pub few : (h : Header) (trace : List TraceLine) (run : Run) (clock : ℕ) (refusal : Option Refusal) → IsAccepted h → IsRun h trace run clock → length trace ≤ 1048576 → sum (idle_clocks trace) ≤ 4294967296 → length (whole h trace run clock refusal) < 4294967295
 
 small-shape : (h : Header) → IsAccepted h → lines_of (shape_of h) ≤ 2 ^ 64
 small-shape h accepted = go h.version.groups accepted.version.2
@@ -99,29 +95,29 @@ small-shape h accepted = go h.version.groups accepted.version.2
     go groups (inl e) = let k = accepted.settings.rows.1 in rw e (omega (arith, k))
     go groups (inr e) = let k = accepted.settings.rows.1 in rw e (omega (arith, k))
 
-read-lines : Laws → (h : Header) (trace : List TraceLine) (run : Run) (clock : ℕ) (refusal : Option Refusal) → IsAccepted h → IsWithinLimits h trace → IsTold refusal → IsRun h trace run clock
+read-lines : Laws → (h : Header) (trace : List TraceLine) (run : Run) (clock : ℕ) (refusal : Option Refusal) → IsAccepted h → AreInside (shape_of h) trace → length trace ≤ 1048576 → IsTold refusal → IsEnding h trace run clock refusal
     → lines_in (shape_of h) Body 1 (parts_of (flat_map spelled (whole h trace run clock refusal))) ≡ record { lines = whole h trace run clock refusal; refusal = None }
-read-lines laws h trace run clock refusal accepted limits told r =
-    let few = laws.few h trace run clock refusal accepted r limits.few limits.idle in
+read-lines laws h trace run clock refusal accepted inside lines told r =
+    let few = r.lines in
     reads-back laws.grammar (shape_of h) Body 1 (whole h trace run clock refusal) (small-shape h accepted) (omega (arith, few))
-    (whole-stands h trace run clock refusal (laws.device h trace run) accepted limits told r)
+    (whole-stands h trace run clock refusal (laws.device h trace run) accepted inside lines told r)
 
-found : Laws → (h : Header) (job text rest : List ℕ) (trace : List TraceLine) (run : Run) (clock : ℕ) (refusal : Option Refusal) → IsAccepted h → opening_of job ≡ Accepts h text rest → IsWithinLimits h trace → IsTold refusal
-    → IsRun h trace run clock → finding_of (text ++ flat_map spelled (whole h trace run clock refusal)) ≡ fine_or None
-found laws h job text rest trace run clock refusal accepted opens limits told r =
+found : Laws → (h : Header) (job text rest : List ℕ) (trace : List TraceLine) (run : Run) (clock : ℕ) (refusal : Option Refusal) → IsAccepted h → opening_of job ≡ Accepts h text rest → AreInside (shape_of h) trace → length trace ≤ 1048576
+    → IsTold refusal → IsEnding h trace run clock refusal → finding_of (text ++ flat_map spelled (whole h trace run clock refusal)) ≡ fine_or None
+found laws h job text rest trace run clock refusal accepted opens inside few told r =
     let lines = whole h trace run clock refusal in
     ap found_in (reopens h job text rest (flat_map spelled lines) opens)
-    ∙ ap (found_behind h) (read-lines laws h trace run clock refusal accepted limits told r)
-    ∙ ap fine_or (no-breach h trace run clock refusal (report-body h trace run accepted limits.inside limits.few r.sound) (laws.verdict h trace run clock accepted limits.inside r))
+    ∙ ap (found_behind h) (read-lines laws h trace run clock refusal accepted inside few told r)
+    ∙ ap fine_or (no-breach h trace run clock refusal (report-body h trace run accepted inside few r.sound) r.rules)
 
 said : (bytes : List ℕ) → finding_of bytes ≡ fine_or None → IsAuditedOk bytes
 unfolding finding_text
 said bytes e = record { finding = ap is_fine e; text = ap finding_text e; status = ap status_of e }
 
-pub audited : Laws → (h : Header) (job text rest : List ℕ) (trace : List TraceLine) (refusal : Option Refusal) (bytes : List ℕ) → IsAccepted h → opening_of job ≡ Accepts h text rest → IsWithinLimits h trace → IsTold refusal
-    → IsReportOf spelled h text trace refusal bytes → IsAuditedOk bytes
-audited laws h job text rest trace refusal bytes accepted opens limits told written =
-    subst IsAuditedOk (sym written.3) (said (text ++ flat_map spelled (whole h trace written.0 written.1 refusal)) (found laws h job text rest trace written.0 written.1 refusal accepted opens limits told written.2))
+pub ended : Laws → (h : Header) (job text rest : List ℕ) (trace : List TraceLine) (run : Run) (clock : ℕ) (refusal : Option Refusal) → IsAccepted h → opening_of job ≡ Accepts h text rest → AreInside (shape_of h) trace → length trace ≤ 1048576
+    → IsTold refusal → IsEnding h trace run clock refusal → IsAuditedOk (text ++ flat_map spelled (whole h trace run clock refusal))
+ended laws h job text rest trace run clock refusal accepted opens inside few told r =
+    said (text ++ flat_map spelled (whole h trace run clock refusal)) (found laws h job text rest trace run clock refusal accepted opens inside few told r)
 
 -- ---- The answer of an audit
 

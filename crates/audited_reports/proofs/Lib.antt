@@ -1,6 +1,7 @@
 pub mod Audited
 pub mod Bytes
 pub mod Counts
+pub mod Finished
 pub mod Ranges
 pub mod Read
 pub mod Replayed

@@ -12,15 +12,14 @@ use Rattle.speed_bin.specs.Counts.{LogCounts, log_counts}
 use Rattle.speed_bin.specs.Header.{IsAccepted, shape_of}
 use Rattle.command_words.specs.Kinds.{is_act, is_rd, is_wr, is_precharge, is_ref_all, is_ref_same, is_rfm_all, is_rfm_same, is_scrub}
 use Rattle.speed_bin.specs.declared.header.Header.{Header}
-use Rattle.reports.specs.Delivered.{device_steps}
+use Rattle.reports.specs.Delivered.{AreInside, device_steps}
 use Rattle.reports.specs.Report.{report}
 use Rattle.reports.specs.Runs.{Run, log_of}
-use Rattle.reports.specs.Sound.{IsRun}
 use Rattle.reports.specs.Stats.{stat_lines, stats}
 use Rattle.ddr_text.specs.ReportParts.{Refusal, refusal_lines}
 use Rattle.reports.specs.Whole.{whole}
-use Rattle.audited_reports.specs.Audited.{IsTold, IsWithinLimits}
-use Rattle.audited_reports.proofs.Counts.{commands-few, counts-few, end-low, log-short, scrubs-few}
+use Rattle.audited_reports.specs.Audited.{IsEnding, IsTold}
+use Rattle.audited_reports.proofs.Counts.{commands-few, counts-few, scrubs-few}
 use Rattle.audited_reports.proofs.Ranges.{AreBody, report-body}
 use Rattle.audited_reports.proofs.Read.{MayStand}
 
@@ -158,14 +157,12 @@ end-stands : (g : Shape) (clock : ℕ) (refusal : Option Refusal) → clock < 2 
 end-stands g clock None low told = (low, Ended, refl, refl)
 end-stands g clock (Some refusal) low told = (low, Ended, refl, (told, Closed, refl, refl))
 
-pub whole-stands : (h : Header) (trace : List TraceLine) (run : Run) (clock : ℕ) (refusal : Option Refusal) → device_log (device_steps h trace run) ≡ log_of run → IsAccepted h → IsWithinLimits h trace → IsTold refusal
-    → IsRun h trace run clock → MayStand (shape_of h) Body (whole h trace run clock refusal)
-whole-stands h trace run clock refusal same accepted limits told r =
+pub whole-stands : (h : Header) (trace : List TraceLine) (run : Run) (clock : ℕ) (refusal : Option Refusal) → device_log (device_steps h trace run) ≡ log_of run → IsAccepted h → AreInside (shape_of h) trace → length trace ≤ 1048576 → IsTold refusal
+    → IsEnding h trace run clock refusal → MayStand (shape_of h) Body (whole h trace run clock refusal)
+whole-stands h trace run clock refusal same accepted inside few told r =
     let g = shape_of h in
-    let low = end-low h trace run clock accepted limits.few limits.idle r in
-    let few = log-short h trace run clock accepted limits.few limits.idle r in
     let last = EndLine clock ∷ refusal_lines refusal in
     subst (MayStand g Body) (sym (append_assoc (report h trace run) (stats h trace run) last))
-    (body-stands g (report h trace run) (stats h trace run ++ last) (report-body h trace run accepted limits.inside limits.few r.sound)
-    (stats-stand g (log_counts h (log_of run)) (scrub_counts h (device_steps h trace run)) last (low-stats h trace run same few)
-    (end-stands g clock refusal (omega (arith, low)) told)))
+    (body-stands g (report h trace run) (stats h trace run ++ last) (report-body h trace run accepted inside few r.sound)
+    (stats-stand g (log_counts h (log_of run)) (scrub_counts h (device_steps h trace run)) last (low-stats h trace run same r.commands)
+    (end-stands g clock refusal r.low told)))

@@ -22,7 +22,8 @@ use speed_bin::{Header, Version, read_header};
 use std::alloc::Global;
 
 /// Puts a session of no command into the slot, under the header that the text states: in front of a separator with a cycle of 2 to
-/// 5 activations and 4 or 8 bank groups, which are 4 and 8 where it states none. What was in the slot is let go.
+/// 5 activations and 4 or 8 bank groups, which are 4 and 8 where it states none. A session that was in the slot is closed, as
+/// `ddr_close` does, when the new one is ready.
 ///
 /// 0; 105 for another cycle or another number of groups; the number of a header that is refused; 254 where memory is wanting. Where
 /// it is not 0, the slot has what it had.
@@ -178,7 +179,7 @@ pub extern "C" fn ddr_lines(alloc: Global, slot: &mut Slot) -> u32
     }
 }
 
-/// Lets go what is in the slot, if there is something.
+/// Lets go what is in the slot, if there is something, and gives its memory back.
 #[unsafe(no_mangle)]
 pub extern "C" fn ddr_close(alloc: Global, slot: &mut Slot)
     ensures { slot.new.kept.session ≡ None }
@@ -186,7 +187,7 @@ pub extern "C" fn ddr_close(alloc: Global, slot: &mut Slot)
     let _session = slot.take(alloc);
 }
 
-// Puts a session of no command into the slot.
+// Puts a session of no command into the slot, and closes what was there.
 fn open(alloc: Global, slot: &mut Slot, header: &Header) -> u8
     requires { IsAccepted header.now }
     ensures opened { result ≡ 0 → Holds slot.new.kept.session header.now [] Going }
@@ -198,6 +199,7 @@ fn open(alloc: Global, slot: &mut Slot, header: &Header) -> u8
     };
     match Box::new(alloc, session) {
         Ok(session) => {
+            ddr_close(alloc, slot);
             slot.put(session);
             0
         }

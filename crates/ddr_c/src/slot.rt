@@ -8,9 +8,9 @@ use crate::session::Session;
 use std::alloc::Global;
 use std::mem::replace;
 
-/// A session, or nothing.
+/// A session, or nothing. It is not `Drop`: only a box gives memory back, and so a session goes back into a box before its slot is
+/// given something else.
 #[repr(C)]
-#[derive(Drop)]
 pub struct Slot {
     has: bool,
     kept: Kept,
@@ -28,14 +28,26 @@ impl Slot {
         }
     }
 
-    /// Keeps this session. What was there is let go, and its memory with it.
+    /// Keeps this session, in a slot that has none.
     pub fn put(&mut self, session: Box<Session>)
+        requires { self.old.kept.session ≡ None }
         ensures { self.new.kept.session ≡ Some session.value }
     {
-        *self = Slot {
+        let full = Slot {
             has: true,
             kept: Kept::full(Parts::of(session)),
         };
+        replace(self, full).let_go();
+    }
+
+    /// Lets go a slot that has no session.
+    pub fn let_go(self)
+        requires { self.kept.session ≡ None }
+    {
+        let Slot {
+            has: _has,
+            kept: _kept,
+        } = self;
     }
 
     /// Takes the session out, where there is one.

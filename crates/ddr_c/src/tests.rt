@@ -82,6 +82,7 @@ fn a_line_comes_back(rt: HostRuntime) -> Result<(), Fail> {
     assert_eq!(rt; ddr_end(alloc, &mut slot, 55), 0);
     assert_eq!(rt; ddr_end(alloc, &mut slot, 56), 255);
     ddr_close(alloc, &mut slot);
+    slot.let_go();
     Ok(())
 }
 
@@ -115,6 +116,8 @@ fn an_alert_is_raised(rt: HostRuntime) -> Result<(), Fail> {
     );
     assert!(rt; !told.alert);
     assert_eq!(rt; ddr_end(alloc, &mut slot, 83), 0);
+    ddr_close(alloc, &mut slot);
+    slot.let_go();
     Ok(())
 }
 
@@ -146,5 +149,28 @@ fn refusals(rt: HostRuntime) -> Result<(), Fail> {
     assert_eq!(rt; ddr_end(alloc, &mut slot, 60), 2);
     ddr_close(alloc, &mut slot);
     assert_eq!(rt; ddr_end(alloc, &mut slot, 60), 255);
+    ddr_close(alloc, &mut slot);
+    slot.let_go();
+    Ok(())
+}
+
+// A slot that is open can be opened again: what it had goes on where the header is refused, and is gone where it is not.
+#[test]
+fn opened_again(rt: HostRuntime) -> Result<(), Fail> {
+    let alloc = rt.alloc();
+    let mut slot = Slot::empty(alloc);
+    let mut told = line(0);
+    assert_eq!(rt; ddr_open(alloc, &mut slot, TINY.as_bytes(), 4, 8), 0);
+    assert_eq!(rt; write_registers(alloc, &mut slot, &mut told), 0);
+    assert_eq!(rt; ddr_open(alloc, &mut slot, TINY.as_bytes(), 6, 8), 105);
+    assert_eq!(rt; ddr_open(alloc, &mut slot, TINY.as_bytes(), 3, 8), 22);
+    assert_eq!(rt; two(alloc, &mut slot, 32, 0x0000, 0x0000, &mut told), 0);
+    assert_eq!(rt; ddr_open(alloc, &mut slot, TINY.as_bytes(), 4, 4), 0);
+    assert_eq!(rt; ddr_lines(alloc, &mut slot), 16384);
+    assert_eq!(rt; two(alloc, &mut slot, 42, 0x0000, 0x0000, &mut told), 14);
+    assert_eq!(rt; ddr_open(alloc, &mut slot, TINY.as_bytes(), 4, 8), 0);
+    assert_eq!(rt; write_registers(alloc, &mut slot, &mut told), 0);
+    ddr_close(alloc, &mut slot);
+    slot.let_go();
     Ok(())
 }

@@ -12,6 +12,7 @@ use Rattle.fair_queue.specs.Serving.{PortsAnswers}
 use Rattle.log_auditor.specs.Findings.{Answers as AuditAnswers}
 use Rattle.made_jobs.specs.Made.{made}
 use Rattle.made_jobs.specs.Writing.{Writes}
+use Rattle.rank_pair.specs.Answers.{PairAnswers}
 use Rattle.spare_device.specs.Spared.{IsSpared}
 use Rattle.trace_replay.specs.Replay.{Answers}
 use Rattle.ddr_cli.specs.AtEnd.{IsAnswer, status_at_end}
@@ -19,7 +20,7 @@ use Rattle.ddr_cli.specs.Made.{MadeAnswers}
 use Rattle.ddr_cli.specs.Shown.{ShowAnswers}
 use Rattle.ddr_cli.specs.Streams.{IsDone}
 use Rattle.ddr_cli.specs.Upgraded.{UpgradeAnswers}
-use Rattle.ddr_cli.specs.Words.{IsAudit, IsExec, IsGen, IsGenRun, IsMerge, IsOfForm, IsPorts, IsReplay, IsShow, IsSpare, IsUpgrade}
+use Rattle.ddr_cli.specs.Words.{IsAudit, IsExec, IsGen, IsGenRun, IsMerge, IsOfForm, IsPair, IsPorts, IsReplay, IsShow, IsSpare, IsUpgrade}
 use Rattle.ddr_cli.specs.declared.form.Form.{Form}
 use Rattle.ddr_cli.specs.declared.form.Form.TheVariants as form
 
@@ -35,17 +36,19 @@ pub done_of : (words : List (String Global)) (it : Status) (left rest had has : 
     → ((cap : ℕ) → IsMerge words cap → MergeAnswers cap it (io left rest had has))
     → (IsExec words → AnswersAs (IsExecuted left) it (io left rest had has))
     → ((dead : ℕ) → IsSpare words dead → AnswersAs (IsSpared dead left) it (io left rest had has))
+    → (IsPair words → PairAnswers it left rest had has)
     → (which : Form) → IsOfForm words which → IsDone which it (io left rest had has)
-done_of words it left rest had has replayed audited shown upgraded made made_run ported merged executed spared form.Replay is = replayed is
-done_of words it left rest had has replayed audited shown upgraded made made_run ported merged executed spared form.Audit is = audited is
-done_of words it left rest had has replayed audited shown upgraded made made_run ported merged executed spared form.Show is = shown is
-done_of words it left rest had has replayed audited shown upgraded made made_run ported merged executed spared form.Upgrade is = upgraded is
-done_of words it left rest had has replayed audited shown upgraded made made_run ported merged executed spared (form.Gen seed requests) is = made seed requests is
-done_of words it left rest had has replayed audited shown upgraded made made_run ported merged executed spared (form.GenRun seed requests) is = made_run seed requests is
-done_of words it left rest had has replayed audited shown upgraded made made_run ported merged executed spared (form.Ports cap) is = ported cap is
-done_of words it left rest had has replayed audited shown upgraded made made_run ported merged executed spared (form.Merge cap) is = merged cap is
-done_of words it left rest had has replayed audited shown upgraded made made_run ported merged executed spared form.Exec is = executed is
-done_of words it left rest had has replayed audited shown upgraded made made_run ported merged executed spared (form.Spare dead) is = spared dead is
+done_of words it left rest had has replayed audited shown upgraded made made_run ported merged executed spared paired form.Replay is = replayed is
+done_of words it left rest had has replayed audited shown upgraded made made_run ported merged executed spared paired form.Audit is = audited is
+done_of words it left rest had has replayed audited shown upgraded made made_run ported merged executed spared paired form.Show is = shown is
+done_of words it left rest had has replayed audited shown upgraded made made_run ported merged executed spared paired form.Upgrade is = upgraded is
+done_of words it left rest had has replayed audited shown upgraded made made_run ported merged executed spared paired (form.Gen seed requests) is = made seed requests is
+done_of words it left rest had has replayed audited shown upgraded made made_run ported merged executed spared paired (form.GenRun seed requests) is = made_run seed requests is
+done_of words it left rest had has replayed audited shown upgraded made made_run ported merged executed spared paired (form.Ports cap) is = ported cap is
+done_of words it left rest had has replayed audited shown upgraded made made_run ported merged executed spared paired (form.Merge cap) is = merged cap is
+done_of words it left rest had has replayed audited shown upgraded made made_run ported merged executed spared paired form.Exec is = executed is
+done_of words it left rest had has replayed audited shown upgraded made made_run ported merged executed spared paired (form.Spare dead) is = spared dead is
+done_of words it left rest had has replayed audited shown upgraded made made_run ported merged executed spared paired form.Pair is = paired is
 
 -- the two flushes at the end keep the status, or make a write fault of an answer
 pub at_end_twice : (it : Status) (first second : Bool) → (status_at_end (status_at_end it first) second ≡ it) ⊎ (IsAnswer it × (status_at_end (status_at_end it first) second ≡ status.WriteFault))

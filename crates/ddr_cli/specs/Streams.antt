@@ -11,6 +11,7 @@ use Rattle.fair_queue.specs.Serving.{PortsAnswers}
 use Rattle.log_auditor.specs.Findings.{Answers as AuditAnswers}
 use Rattle.made_jobs.specs.Made.{made}
 use Rattle.made_jobs.specs.Writing.{Writes}
+use Rattle.rank_pair.specs.Answers.{PairAnswers}
 use Rattle.spare_device.specs.Spared.{IsSpared}
 use Rattle.trace_replay.specs.Replay.{Answers}
 use Rattle.ddr_cli.specs.AtEnd.{IsAnswer}
@@ -32,6 +33,7 @@ IsDone (form.Ports cap) it io = PortsAnswers cap it io
 IsDone (form.Merge cap) it io = MergeAnswers cap it io
 IsDone form.Exec it io = AnswersAs (IsExecuted io.had) it io
 IsDone (form.Spare dead) it io = AnswersAs (IsSpared dead io.had) it io
+IsDone form.Pair it io = PairAnswers it io.had io.left io.written_before io.written_after
 
 -- what a reader gave is answered with this status; nothing is said of what was written
 abbrev pub IsDoneFor : Form → Option (List ℕ) → Status → Type 0

@@ -28,6 +28,10 @@ IsUpgrade words = map string_bytes words ≡ codes "upgrade" ∷ []
 abbrev pub IsExec : List (String Global) → Type 0
 IsExec words = map string_bytes words ≡ codes "exec" ∷ []
 
+-- the one word is `pair`
+abbrev pub IsPair : List (String Global) → Type 0
+IsPair words = map string_bytes words ≡ codes "pair" ∷ []
+
 -- the words are `gen`, and then two that spell the seed and the number of requests
 abbrev pub IsGen : List (String Global) → ℕ → ℕ → Type 0
 IsGen words seed requests = (rest : List (List ℕ)) × (map string_bytes words ≡ codes "gen" ∷ rest) × (seed_and_requests rest ≡ Some (seed, requests))
@@ -91,6 +95,7 @@ IsOfForm words (form.Ports cap) = IsPorts words cap
 IsOfForm words (form.Merge cap) = IsMerge words cap
 IsOfForm words form.Exec = IsExec words
 IsOfForm words (form.Spare dead) = IsSpare words dead
+IsOfForm words form.Pair = IsPair words
 
 -- the words are of one of the forms
 abbrev pub IsListed : List (String Global) → Type 0

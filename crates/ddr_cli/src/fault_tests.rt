@@ -73,6 +73,18 @@ fn ports_of(alloc: Global, job: &str) -> Result<String, Fail> {
     Ok(lines)
 }
 
+// The job with its trace lines as those of two ranks in turn.
+fn ranks_of(alloc: Global, job: &str) -> Result<String, Fail> {
+    let mut lines = String::from_str(alloc, OPENING)?;
+    let (_, trace) = job.split_once("---\n").unwrap_or(("", ""));
+    for (number, line) in trace.lines().enumerate() {
+        let rank = number % 2;
+        let more = format!(in alloc; "{rank} {line}\n")?;
+        lines.push_str(&more)?;
+    }
+    Ok(lines)
+}
+
 // A script: a line is written, some of its bits are turned, and it is read.
 fn small_script(alloc: Global) -> Result<String, Fail> {
     let (_, data) = TRACE.split_once("W 0 ").unwrap_or(("", ""));
@@ -208,6 +220,15 @@ fn each_read_of_four_ports_fails(rt: HostRuntime) -> Result<(), Fail> {
 }
 
 #[test]
+fn each_read_of_two_ranks_fails(rt: HostRuntime) -> Result<(), Fail> {
+    for job in [small_job(rt.alloc())?, long_job(rt.alloc())?] {
+        let lines = ranks_of(rt.alloc(), &job)?;
+        fails_at_each_read(&rt, rt.alloc(), &["pair"], lines.as_bytes())?;
+    }
+    Ok(())
+}
+
+#[test]
 fn each_read_of_a_script_fails(rt: HostRuntime) -> Result<(), Fail> {
     let script = small_script(rt.alloc())?;
     fails_at_each_read(&rt, rt.alloc(), &["exec"], script.as_bytes())?;
@@ -269,6 +290,15 @@ fn each_write_of_four_ports_fails(rt: HostRuntime) -> Result<(), Fail> {
         for word in ["merge", "ports"] {
             fails_at_each_write(&rt, rt.alloc(), &[word, "2"], lines.as_bytes())?;
         }
+    }
+    Ok(())
+}
+
+#[test]
+fn each_write_of_two_ranks_fails(rt: HostRuntime) -> Result<(), Fail> {
+    for job in [small_job(rt.alloc())?, long_job(rt.alloc())?] {
+        let lines = ranks_of(rt.alloc(), &job)?;
+        fails_at_each_write(&rt, rt.alloc(), &["pair"], lines.as_bytes())?;
     }
     Ok(())
 }

@@ -30,6 +30,8 @@ pub enum Form {
     Exec,
     /// `spare` with the number of the dead device.
     Spare(u8),
+    /// `pair`.
+    Pair,
 }
 
 /// The form of the words. `None` exactly where they are of none.
@@ -46,6 +48,8 @@ pub fn form_of(words: &[String]) -> Option<Form>
         Some(Form::Upgrade)
     } else if is_word(words, "exec") {
         Some(Form::Exec)
+    } else if is_word(words, "pair") {
+        Some(Form::Pair)
     } else {
         longer_form(words)
     }

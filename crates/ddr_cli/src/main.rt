@@ -14,6 +14,8 @@ pub mod laws;
 mod lent_output;
 mod made_run;
 #[cfg(test)]
+mod pair_tests;
+#[cfg(test)]
 mod ports_tests;
 mod run;
 mod showing;

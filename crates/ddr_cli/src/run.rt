@@ -11,7 +11,7 @@ ghost use Rattle.made_jobs.specs.Writing.{Writes};
 ghost use Rattle.ddr_cli.specs.Made.{MadeAnswers};
 ghost use Rattle.ddr_cli.specs.Shown.{ShowAnswers};
 ghost use Rattle.ddr_cli.specs.Upgraded.{UpgradeAnswers};
-ghost use Rattle.ddr_cli.specs.Words.{AskForPorts, AskForRules, IsAudit, IsExec, IsGen, IsGenRun, IsListed, IsMerge, IsPorts, IsReplay, IsShow, IsSpare, IsUpgrade, Makes};
+ghost use Rattle.ddr_cli.specs.Words.{AskForPorts, AskForRules, IsAudit, IsExec, IsGen, IsGenRun, IsListed, IsMerge, IsPair, IsPorts, IsReplay, IsShow, IsSpare, IsUpgrade, Makes};
 ghost use Rattle.ddr_text.specs.Opening.{Accepts, opening_of};
 ghost use Rattle.ddr_text.specs.Outcome.{AnswersAs};
 ghost use Rattle.device_exec.specs.Executed.{IsExecuted, four_devices};
@@ -20,6 +20,9 @@ ghost use Rattle.fair_queue.specs.Answering.{MergeAnswers};
 ghost use Rattle.fair_queue.specs.Arrivals.{input_of};
 ghost use Rattle.fair_queue.specs.Serving.{PortsAnswers};
 ghost use Rattle.fair_queue.specs.Turns.{IsFair};
+ghost use Rattle.pair_reports.specs.declared.rank_line.RankLine.{RankLine};
+ghost use Rattle.rank_pair.specs.Answers.{PairAnswers};
+ghost use Rattle.rank_pair.specs.Job.{IsPairJobOf};
 ghost use Rattle.spare_device.specs.Promises.{ReadsWell as ReadsWellWithout};
 ghost use Rattle.spare_device.specs.Spared.{IsSpared, five_devices};
 
@@ -32,6 +35,7 @@ use device_exec::exec;
 use fair_queue::{merge, ports};
 use log_auditor::audit;
 use made_jobs::write_job;
+use rank_pair::run_pair;
 use spare_device::spare;
 use std::alloc::Global;
 use trace_replay::replay;
@@ -113,6 +117,13 @@ pub fn run<S: Source, K: Sink>(
     ensures spare_complete { (dead : ℕ) (bytes rest text : List ℕ) (h : Header) (clock : ℕ) → IsSpare words.now dead → S.left source.old ≡ Some bytes
         → opening_of bytes ≡ Accepts h text rest → IsFlawless (five_devices dead) h rest clock → IsUnblamed result }
 
+    // With the word `pair`: the report of the job for two ranks in the bytes that were read, with what it promises.
+    ensures paired { IsPair words.now → PairAnswers result (S.left source.old) (S.left source.new) (K.written sink.old) (K.written sink.new) }
+
+    // A job for two ranks with nothing to refuse is not refused.
+    ensures pair_complete { (bytes : List ℕ) (h : Header) (text : List ℕ) (trace : List RankLine) → IsPair words.now
+        → S.left source.old ≡ Some bytes → IsPairJobOf (Some bytes) h text trace None → result ≢ Status.Refused }
+
     // A fault is told where it was counted.
     ensures read { result ≡ Status.ReadFault → Rose (S.faults source.old) (S.faults source.new) }
     ensures write { result ≡ Status.WriteFault → Rose (K.faults sink.old) (K.faults sink.new) }
@@ -133,6 +144,7 @@ pub fn run<S: Source, K: Sink>(
         Some(Form::Merge(cap)) => merge(alloc, cap, source, sink),
         Some(Form::Exec) => exec(alloc, source, sink),
         Some(Form::Spare(dead)) => spare(alloc, dead, source, sink),
+        Some(Form::Pair) => run_pair(alloc, source, sink),
         None => Status::Usage,
     }
 }

@@ -221,7 +221,7 @@ fn faults_are_told(rt: HostRuntime) -> Result<(), Fail> {
     let rows = [
         (
             Status::Usage,
-            "usage: ddr replay | audit | show | gen [run] SEED REQUESTS | upgrade | ports CAP | merge CAP | exec | spare DEVICE",
+            "usage: ddr replay | audit | show | gen [run] SEED REQUESTS | upgrade | ports CAP | merge CAP | exec | spare DEVICE | pair",
         ),
         (Status::ReadFault, "read fault"),
         (Status::WriteFault, "write fault"),

@@ -1,9 +1,8 @@
 -- The same over a longer trace.
-use Rattle.std.proofs.Common.{◌≡◌, ◌∙◌, ℕ, suc, refl, sym, ap, List, [], ◌∷◌, ◌++◌, map, reverse, append-nil, append_assoc, if◌then◌else◌}
+use Rattle.std.proofs.Common.{◌≡◌, ◌∙◌, ℕ, suc, refl, sym, ap, List, [], ◌∷◌, ◌++◌, map, reverse, append_assoc}
 use Rattle.speed_bin.specs.declared.header.Header.{Header}
 use Rattle.ddr_text.specs.declared.lines.TraceLine.{TraceLine}
 use Rattle.ddr_text.specs.declared.lines.ReportLine.{ReportLine}
-use Rattle.rank_bus.specs.Buses.{is_same}
 use Rattle.rank_bus.specs.declared.rank.Rank.{Rank}
 use Rattle.rank_bus.specs.declared.rank.Rank.TheVariants.{Zero, One}
 use Rattle.reports.specs.Report.{latest}
@@ -13,7 +12,7 @@ use Rattle.reports.proofs.Grows.{sound-longer}
 use Rattle.reports.proofs.Longer.{latest-longer}
 use Rattle.pair_reports.specs.Lines.{deed_of, deeds, deeds_from, line_for, lines_of, only}
 use Rattle.pair_reports.specs.Report.{latest_of, of_rank, pair_report}
-use Rattle.pair_reports.specs.Runs.{PairRun, RankStep, done, run_of}
+use Rattle.pair_reports.specs.Runs.{PairRun, done, run_of}
 use Rattle.pair_reports.specs.Sound.{IsBegun}
 use Rattle.pair_reports.specs.declared.rank_line.RankLine.{RankLine}
 
@@ -37,15 +36,15 @@ latest_longer h trace more rank run step sound =
     rw (only-append rank trace more) (ap (λ (lines : List ReportLine). of_rank rank lines) (latest-longer h (only rank trace) (only rank more) run step sound))
 
 -- the steps of each rank are sound
-abbrev AllSound : Header → List RankLine → PairRun → Type 0
+abbrev pub AllSound : Header → List RankLine → PairRun → Type 0
 AllSound h trace run = (rank : Rank) → Sound h (only rank trace) (run_of rank run)
 
-own_step : (h : Header) (trace : List RankLine) (owner : Rank) (step : Step) (run : PairRun)
+pub own_step : (h : Header) (trace : List RankLine) (owner : Rank) (step : Step) (run : PairRun)
     → AllSound h trace (record { rank = owner; step = step } ∷ run) → Sound h (only owner trace) (step ∷ run_of owner run)
 own_step h trace Zero step run sound = sound Zero
 own_step h trace One step run sound = sound One
 
-fewer_steps : (h : Header) (trace : List RankLine) (owner : Rank) (step : Step) (run : PairRun)
+pub fewer_steps : (h : Header) (trace : List RankLine) (owner : Rank) (step : Step) (run : PairRun)
     → AllSound h trace (record { rank = owner; step = step } ∷ run) → AllSound h trace run
 fewer_steps h trace Zero step run sound Zero = (sound Zero).1
 fewer_steps h trace Zero step run sound One = sound One

@@ -1,6 +1,6 @@
 -- The bus and the log of each rank.
-use Rattle.std.proofs.Common.{◌≡◌, ℕ, refl, ap, None, List, [], ◌∷◌, if◌then◌else◌}
-use Rattle.speed_bin.specs.Log.{Issued, Log}
+use Rattle.std.proofs.Common.{◌≡◌, refl, ap, List, [], ◌∷◌, if◌then◌else◌}
+use Rattle.speed_bin.specs.Log.{Log}
 use Rattle.speed_bin.specs.declared.header.Header.{Header}
 use Rattle.speed_bin.proofs.Audits.{all_pass}
 use Rattle.speed_bin.specs.Rules.{rules_at}

@@ -1,5 +1,5 @@
 -- The lines of one rank in the report of both.
-use Rattle.std.proofs.Common.{◌≡◌, ◌∙◌, ℕ, refl, sym, ap, None, List, [], ◌∷◌, ◌++◌, map, append-nil, append_assoc, if◌then◌else◌}
+use Rattle.std.proofs.Common.{◌≡◌, ◌∙◌, ℕ, refl, sym, ap, None, List, [], ◌∷◌, ◌++◌, append-nil, append_assoc, if◌then◌else◌}
 use Rattle.speed_bin.specs.declared.header.Header.{Header}
 use Rattle.ddr_text.specs.declared.lines.ReportLine.{ReportLine}
 use Rattle.ddr_text.specs.declared.lines.ReportLine.TheVariants.{End as EndLine}
@@ -7,7 +7,7 @@ use Rattle.rank_bus.specs.Buses.{is_same}
 use Rattle.rank_bus.specs.declared.rank.Rank.{Rank}
 use Rattle.rank_bus.specs.declared.rank.Rank.TheVariants.{Zero, One}
 use Rattle.reports.specs.Report.{latest, report}
-use Rattle.reports.specs.Runs.{Step, Run}
+use Rattle.reports.specs.Runs.{Step}
 use Rattle.reports.specs.Stats.{stats}
 use Rattle.reports.specs.Whole.{whole}
 use Rattle.pair_reports.specs.Lines.{only}

@@ -5,7 +5,7 @@ use Rattle.rank_bus.specs.Buses.{BusLog, BusPlace, is_same}
 use Rattle.rank_bus.specs.declared.rank.Rank.{Rank}
 use Rattle.reports.specs.Barriers.{Serving, with_serving}
 use Rattle.reports.specs.Requests.{Request}
-use Rattle.reports.specs.Runs.{Served, Step, Issues, Flips, Run}
+use Rattle.reports.specs.Runs.{Step, Issues, Flips, Run}
 
 -- a step of one of the ranks
 pub record RankStep : Type 0 where

@@ -1,5 +1,5 @@
 -- Which runs of a trace of two ranks are right.
-use Rattle.std.specs.Prelude.{ℕ, ◌≡◌, ◌+◌, ◌*◌, ◌≤◌, None, List, ◌++◌, length, reverse, sum}
+use Rattle.std.specs.Prelude.{ℕ, ◌≡◌, ◌+◌, ◌*◌, ◌/◌, ◌≤◌, None, List, ◌++◌, length, reverse, sum}
 use Rattle.command_words.specs.Kinds.{is_act, is_nop}
 use Rattle.speed_bin.specs.Counts.{commands}
 use Rattle.speed_bin.specs.Gap.{n_max}
@@ -23,11 +23,12 @@ pub record IsBegun (h : Header) (trace : List RankLine) (run : PairRun) : Type 0
   pub left : List ℕ
   pub in_order : reverse (done run) ++ left ≡ deeds (lines_of trace)
 
--- How long a run is that ends at this clock: as many ACTs of each rank as it has requests, no NOP, and the end within a
--- bound that the requests and the I lines of the trace set.
+-- How long a run is that ends at this clock: as many ACTs of each rank as it has requests, no NOP, and its commands and the
+-- end within bounds that the requests and the I lines of the trace set.
 pub record IsShortPair (h : Header) (trace : List RankLine) (run : PairRun) (clock : ℕ) : Type 0 where
   pub activations : (rank : Rank) → commands is_act (log_of (run_of rank run)) ≡ length (requests (only rank trace))
   pub no_nop : (rank : Rank) → commands is_nop (log_of (run_of rank run)) ≡ 0
+  pub commands : (rank : Rank) → length (log_of (run_of rank run)) ≤ 16 + 5 * length (requests (lines_of trace)) + 5 * (clock / h.timing.nrefi)
   pub end : clock ≤ 2 * (sum (idle_clocks (lines_of trace)) + 12 * n_max h.timing * (length (requests (lines_of trace)) + 4))
 
 -- A finished run: it is right, all R, W and F lines of the trace were done in their order, it waited at the I lines, and

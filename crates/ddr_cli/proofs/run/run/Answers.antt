@@ -7,7 +7,7 @@ use Rattle.ddr_text.specs.Outcome.{AnswersAs}
 use Rattle.device_exec.specs.Promises.{IsFlawless, JudgesInOrder}
 use Rattle.spare_device.specs.Promises.{ReadsWell}
 use Rattle.spare_device.specs.Spared.{IsSpared, five_devices}
-use Rattle.ddr_cli.specs.declared.form.Form.TheVariants.{Audit, Exec, Gen, GenRun, Merge, Ports, Replay, Show, Spare, Upgrade}
+use Rattle.ddr_cli.specs.declared.form.Form.TheVariants.{Audit, Exec, Gen, GenRun, Merge, Pair, Ports, Replay, Show, Spare, Upgrade}
 use Rattle.ddr_cli.proofs.NumberWords.{asks_listed, device_below, number_within, same_number}
 use Rattle.ddr_cli.proofs.MadeWords.{either_way, few_requests}
 use Rattle.ddr_cli.proofs.run.run.Goals as goal
@@ -125,3 +125,6 @@ returns-in-None-clause-spare_judged g c = λ dead bytes rest text h is left open
 
 pub returns-in-None-clause-spare_reads : goal.returns-in-None-clause-spare_reads
 returns-in-None-clause-spare_reads g c = λ dead bytes rest text h is left opens. absurd (c.in-None.ensures (Spare dead, is))
+
+pub returns-in-None-clause-paired : goal.returns-in-None-clause-paired
+returns-in-None-clause-paired g c = λ is. absurd (c.in-None.ensures (Pair, is))

@@ -15,5 +15,6 @@ returns-clause-done g c = λ which is. (
       (rw (c.new-source.ensures.reader) at c.run.ensures.merged)
       (rw (c.new-source.ensures.reader) at c.run.ensures.executed)
       (rw (c.new-source.ensures.reader) at c.run.ensures.spared)
+      (rw (c.new-source.ensures.reader) at c.run.ensures.paired)
       which is,
 )

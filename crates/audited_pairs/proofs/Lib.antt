@@ -1,0 +1,4 @@
+pub mod Ended
+pub mod Lines
+pub mod Split
+pub mod Parts

@@ -1,0 +1,4 @@
+//! What a finished report of two ranks promises, as laws over its definitions.
+#![tactic(auto)]
+
+pub mod laws;

@@ -1,0 +1,13 @@
+pub mod Accessing
+pub mod Answers
+pub mod DeadlineLaws
+pub mod FinishedLaws
+pub mod Flipping
+pub mod Idling
+pub mod Job
+pub mod Pairs
+pub mod RankEnds
+pub mod Reading
+pub mod Running
+pub mod Under
+pub mod Writing

@@ -1,0 +1,5 @@
+pub mod Headers
+pub mod TwoPerCycle
+pub mod ThreePerCycle
+pub mod FourPerCycle
+pub mod FivePerCycle

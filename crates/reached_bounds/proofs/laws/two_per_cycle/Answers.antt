@@ -1,0 +1,14 @@
+use Rattle.reached_bounds.proofs.TwoPerCycle.{one_row, two_rows, three_rows, four_rows, five_rows, six_rows, seven_rows, eight_rows}
+use Rattle.reached_bounds.proofs.laws.two_per_cycle.Goals as goal
+
+pub returns : goal.returns
+returns c = record {
+  one_row = one_row;
+  two_rows = two_rows;
+  three_rows = three_rows;
+  four_rows = four_rows;
+  five_rows = five_rows;
+  six_rows = six_rows;
+  seven_rows = seven_rows;
+  eight_rows = eight_rows;
+}
