@@ -1,0 +1,10 @@
+pub mod Verdicts
+pub mod Steps
+pub mod LeftOut
+pub mod Wanting
+pub mod Whole
+pub mod Named
+pub mod Issuing
+pub mod Taking
+pub mod Fits
+pub mod Appending

@@ -1,0 +1,3 @@
+pub mod Verdicts
+pub mod Rolling
+pub mod Auditing
